@@ -1,3 +1,4 @@
 pub mod Places
 pub mod Pieces
 pub mod Limits
+pub mod Shared

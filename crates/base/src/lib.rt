@@ -11,6 +11,7 @@ mod entry;
 mod fault;
 mod key;
 mod listed;
+mod shared_list;
 mod sorted_map;
 mod text;
 
@@ -18,5 +19,6 @@ pub use entry::Entry;
 pub use fault::Fault;
 pub use key::MapKey;
 pub use listed::Listed;
+pub use shared_list::SharedList;
 pub use sorted_map::SortedMap;
 pub use text::{Piece, Text};

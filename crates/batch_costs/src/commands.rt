@@ -42,7 +42,7 @@ pub fn key(alloc: Global, kind: KeyKind, number: u32) -> Result<Key, Fault> {
     if !is_key_text(bytes.as_slice()) {
         return Err(Fault::Unfit);
     }
-    Ok(Key::new(bytes))
+    Ok(Key::from_slice(alloc, bytes.as_slice())?)
 }
 
 /// A block of so many bytes, which the number determines.

@@ -2,7 +2,7 @@ ghost use Rattle.std.specs.Prelude.{◌≡◌, ◌≤◌, ◌↔◌, length, IsT
 ghost use Rattle.batches.specs.declared.batch.TheConstants.{MOST_REQUESTS, GREATEST_NUMBER};
 ghost use Rattle.batches.specs.Stamp.{first_stamp};
 
-use base::Listed;
+use base::SharedList;
 use sessions::Request;
 use std::alloc::AllocError;
 
@@ -14,7 +14,7 @@ pub const MOST_REQUESTS: usize = 64;
 pub const GREATEST_NUMBER: u64 = (1 << 58) - 1;
 
 /// The requests of a batch, in its order: up to `MOST_REQUESTS`.
-pub type Requests = Listed<Request, 0, MOST_REQUESTS>;
+pub type Requests = SharedList<Request, 0, MOST_REQUESTS>;
 
 /// Requests that are executed together. Batches are numbered from 1 to `GREATEST_NUMBER`.
 pub struct Batch {

@@ -20,7 +20,7 @@ pub enum Handed<'a> {
 }
 
 fn item(alloc: Global) -> Result<Found, AllocError> {
-    let key = Key::new(vec![in alloc; b'a']?);
+    let key = Key::from_slice(alloc, &[b'a'])?;
     Ok(Found {
         key,
         flags: 0,

@@ -2,6 +2,7 @@
 
 ghost use Rattle.std.specs.Prelude.{◌≡◌, ◌<◌, IsTrue, IfOk};
 ghost use Rattle.pages.specs.Page.{page_count};
+ghost use Rattle.pages.specs.Joined.{IsOwn};
 ghost use Rattle.states.specs.State.{initial_state};
 ghost use Rattle.process_text.specs.StateOf.{IsStateOf};
 ghost use Rattle.shelf.specs.Found.{rows_found};
@@ -9,16 +10,14 @@ ghost use Rattle.data_folder.specs.Items.{AreRowsOf, AreStatesTold};
 
 use base::Entry;
 use item_rows::changes_since;
-use item_tree::ItemTree;
-use items::{Item, Store};
-use pages::{Layout, Page};
+use items::Item;
+use pages::{Layout, Page, Pages};
 use process_text::ProcessText;
 use proto::{Fault, Key};
 use shelf::{FoundItems, are_all};
 use states::{State, layout_of};
 use std::alloc::{AllocError, Global};
 use token::PAGES;
-use wire::Record;
 
 /// From page to page the row numbers of items are so far apart.
 const PAGE_ROW_NUMBERS: u64 = 1 << 55;
@@ -50,53 +49,32 @@ fn page_entries(
     Ok(entries)
 }
 
-/// Puts entries into a page.
-fn put_all(page: &mut Page, entries: &[Entry<Key, Item>]) -> Result<(), AllocError> {
-    for entry in entries {
-        page.put(entry.key().clone()?, entry.value().clone()?)?;
-    }
-    Ok(())
-}
-
-/// Writes the text of a page that is sorted.
-fn put_sorted(
-    alloc: Global,
-    entries: &[Entry<Key, Item>],
-    text: &mut Vec<u8>,
-) -> Result<(), AllocError> {
-    let mut page = Page::new(alloc)?;
-    put_all(&mut page, entries)?;
-    page.put_text(text)
-}
-
-/// Writes the text of a page that is a tree.
-fn put_tree(
-    alloc: Global,
-    entries: &[Entry<Key, Item>],
-    text: &mut Vec<u8>,
-) -> Result<(), AllocError> {
-    let tree = ItemTree::of_entries(alloc, entries)?;
-    if tree.len() >= 1 << 32 {
-        return Err(AllocError);
-    }
-    tree.put(text)
-}
-
-/// Writes the text of each page, in the order of their numbers.
-fn put_pages(
+/// The page of this number that has its entries. `BadRecord`: some are of another page. `NoMemory` is the only other error.
+fn page_of(
     alloc: Global,
     layout: Layout,
     found: &FoundItems,
-    text: &mut Vec<u8>,
-) -> Result<(), AllocError> {
-    for number in 0..PAGES {
-        let entries = page_entries(alloc, found, number)?;
-        match layout {
-            Layout::Sorted => put_sorted(alloc, &entries, text)?,
-            Layout::Tree => put_tree(alloc, &entries, text)?,
-        }
+    number: usize,
+) -> Result<Page, Fault>
+    requires { number < page_count }
+    ensures { IfOk result (λ page. IsOwn number page.items) }
+{
+    let entries = page_entries(alloc, found, number)?;
+    let page = Page::of_entries(alloc, layout, &entries)?;
+    if page.is_own(alloc, number)? {
+        Ok(page)
+    } else {
+        Err(Fault::BadRecord)
     }
-    Ok(())
+}
+
+/// The pages that have these items. The errors are those of `page_of`.
+fn pages_of(alloc: Global, layout: Layout, found: &FoundItems) -> Result<Pages, Fault> {
+    let mut pages = Vec::with_capacity(alloc, PAGES)?;
+    for number in 0..PAGES {
+        pages.push(page_of(alloc, layout, found, number)?)?;
+    }
+    Ok(Pages::join(pages))
 }
 
 /// The state of this text that has these items. `BadRecord`: they are not the items of this state, since the token is not
@@ -104,9 +82,8 @@ fn put_pages(
 pub fn state_with(alloc: Global, text: &ProcessText, found: &FoundItems) -> Result<State, Fault>
     ensures { IfOk result (λ state. IsStateOf text.now state) }
 {
-    let mut bytes = text.front(alloc)?;
-    put_pages(alloc, layout_of(text.head.origin.form), found, &mut bytes)?;
-    text.state(alloc, &bytes)
+    let pages = pages_of(alloc, layout_of(text.head.origin.form), found)?;
+    text.state_with(alloc, pages)
 }
 
 /// Whether these are the items of the state, each in its row. It takes them.

@@ -10,7 +10,7 @@ use Rattle.proto.specs.declared.key.TheConstants.{MOST_KEYS}
 use Rattle.proto.specs.declared.line.TheConstants as profile
 use Rattle.proto.specs.declared.reply.Found.{Found}
 use Rattle.proto.specs.declared.reply.Reply.TheVariants as reply
-use Rattle.dialect.specs.Reading.{head, read_text, fits, piece_turns, read_command, read_turns}
+use Rattle.dialect.specs.Reading.{head, read_text, keys_fit, piece_turns, read_command, read_turns}
 use Rattle.dialect.specs.Laws.{keys_read, all_keys, IsPieceTurn, ArePieces, all_found, bytes_shown}
 use Rattle.dialect.specs.declared.turn.Show.{Show}
 use Rattle.dialect.specs.declared.turn.Show.TheVariants as show
@@ -35,7 +35,7 @@ keys_either r ks k more false p q =
 
 keys_kept : (r : ReadVerb) (ks more : List (List ℕ)) → all_keys (piece_turns r ks more) ≡ ks ++ more
 keys_kept r ks [] = ap (λ (ys : List (List ℕ)). ys ++ []) (keys_asked r ks)
-keys_kept r ks (k ∷ more) = keys_either r ks k more (fits r (ks ++ k ∷ [])) (keys_kept r (ks ++ k ∷ []) more) (keys_kept r (k ∷ []) more)
+keys_kept r ks (k ∷ more) = keys_either r ks k more (keys_fit r (ks ++ k ∷ [])) (keys_kept r (ks ++ k ∷ []) more) (keys_kept r (k ∷ []) more)
 
 all_push : (ks : List (List ℕ)) (k : List ℕ) → list_all is_key ks ≡ true → is_key k ≡ true → list_all is_key (ks ++ k ∷ []) ≡ true
 all_push [] k e f = ap (λ (b : Bool). b && true) f
@@ -61,7 +61,7 @@ one_good r k h e = record {
   short = let small : length k ≤ 250 = key_short k e in omega (arith, text_one r k, small, h);
 }
 
-longer_good : (r : ReadVerb) (ks : List (List ℕ)) (k : List ℕ) → Good r ks → is_key k ≡ true → fits r (ks ++ k ∷ []) ≡ true → Good r (ks ++ k ∷ [])
+longer_good : (r : ReadVerb) (ks : List (List ℕ)) (k : List ℕ) → Good r ks → is_key k ≡ true → keys_fit r (ks ++ k ∷ []) ≡ true → Good r (ks ++ k ∷ [])
 longer_good r ks k g e f = record {
   valid = all_push ks k g.valid e;
   some = omega (arith, length-append ks (k ∷ []));
@@ -69,8 +69,8 @@ longer_good r ks k g e f = record {
   short = fits_short r (ks ++ k ∷ []) f;
 }
 
-either_pieces : (r : ReadVerb) (ks : List (List ℕ)) (k : List ℕ) (more : List (List ℕ)) (b : Bool) → fits r (ks ++ k ∷ []) ≡ b → Good r ks
-    → (fits r (ks ++ k ∷ []) ≡ true → ArePieces r (piece_turns r (ks ++ k ∷ []) more)) → ArePieces r (piece_turns r (k ∷ []) more)
+either_pieces : (r : ReadVerb) (ks : List (List ℕ)) (k : List ℕ) (more : List (List ℕ)) (b : Bool) → keys_fit r (ks ++ k ∷ []) ≡ b → Good r ks
+    → (keys_fit r (ks ++ k ∷ []) ≡ true → ArePieces r (piece_turns r (ks ++ k ∷ []) more)) → ArePieces r (piece_turns r (k ∷ []) more)
     → ArePieces r (if b then piece_turns r (ks ++ k ∷ []) more else Ask (read_command r ks) show.Items ∷ piece_turns r (k ∷ []) more)
 either_pieces r ks k more true f g p q = p f
 either_pieces r ks k more false f g p q = (as_turn r ks show.Items g, q)
@@ -79,7 +79,7 @@ are_pieces : (r : ReadVerb) (ks more : List (List ℕ)) → length (head r) ≤ 
 are_pieces r ks [] h g e = (as_turn r ks show.Whole g, tt)
 are_pieces r ks (k ∷ more) h g e =
     let parts = and_parts (is_key k) (list_all is_key more) e in
-    either_pieces r ks k more (fits r (ks ++ k ∷ [])) refl g (λ f. are_pieces r (ks ++ k ∷ []) more h (longer_good r ks k g parts.0 f) parts.1)
+    either_pieces r ks k more (keys_fit r (ks ++ k ∷ [])) refl g (λ f. are_pieces r (ks ++ k ∷ []) more h (longer_good r ks k g parts.0 f) parts.1)
     (are_pieces r (k ∷ []) more h (one_good r k h parts.0) parts.1)
 
 pieces_of_keys : (r : ReadVerb) (k : List ℕ) (ks : List (List ℕ)) → length (head r) ≤ 45 → list_all is_key (k ∷ ks) ≡ true → ArePieces r (piece_turns r (k ∷ []) ks)
@@ -110,7 +110,7 @@ either_shown r ks k more false p q = more_shown r ks (piece_turns r (k ∷ []) m
 
 shown_as_one : (r : ReadVerb) (ks more : List (List ℕ)) → ShowsAsOne (piece_turns r ks more)
 shown_as_one r ks [] = last_shown r ks
-shown_as_one r ks (k ∷ more) = either_shown r ks k more (fits r (ks ++ k ∷ [])) (shown_as_one r (ks ++ k ∷ []) more) (shown_as_one r (k ∷ []) more)
+shown_as_one r ks (k ∷ more) = either_shown r ks k more (keys_fit r (ks ++ k ∷ [])) (shown_as_one r (ks ++ k ∷ []) more) (shown_as_one r (k ∷ []) more)
 
 -- the turns of a line of keys are its pieces
 turns_are : (r : ReadVerb) (k : List ℕ) (ks : List (List ℕ)) → list_all is_key (k ∷ ks) ≡ true → read_turns r (k ∷ ks) ≡ piece_turns r (k ∷ []) ks

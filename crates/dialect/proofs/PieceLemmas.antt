@@ -8,7 +8,7 @@ use Rattle.proto.specs.Key.{is_key, is_key_byte}
 use Rattle.std.specs.List.{list_all}
 use Rattle.proto.specs.declared.key.TheConstants.{MOST_KEYS, MOST_KEY_BYTES}
 use Rattle.proto.specs.declared.line.TheConstants as profile
-use Rattle.dialect.specs.Reading.{head, read_text, fits, piece_turns, has_room, IsPiece, read_command}
+use Rattle.dialect.specs.Reading.{head, read_text, keys_fit, piece_turns, has_room, IsPiece, read_command}
 use Rattle.dialect.specs.declared.turn.Show.TheVariants as show
 use Rattle.dialect.specs.declared.turn.Turn.TheVariants.{Ask}
 use Rattle.dialect.specs.declared.line.ReadVerb.{ReadVerb}
@@ -30,16 +30,16 @@ pub text_more : (r : ReadVerb) (ks : List (List ℕ)) (k : List ℕ) → length 
 unfolding read_text
 text_more r ks k = simp (flat_map-append, length-append) (omega arith)
 
-pub fits_yes : (r : ReadVerb) (ks : List (List ℕ)) → length ks ≤ MOST_KEYS → length (read_text r ks) ≤ profile.MOST_LINE_BYTES → fits r ks ≡ true
-unfolding fits
+pub fits_yes : (r : ReadVerb) (ks : List (List ℕ)) → length ks ≤ MOST_KEYS → length (read_text r ks) ≤ profile.MOST_LINE_BYTES → keys_fit r ks ≡ true
+unfolding keys_fit
 fits_yes r ks l m = grind (arith, nat_tests)
 
-pub fits_many : (r : ReadVerb) (ks : List (List ℕ)) → MOST_KEYS < length ks → fits r ks ≡ false
-unfolding fits
+pub fits_many : (r : ReadVerb) (ks : List (List ℕ)) → MOST_KEYS < length ks → keys_fit r ks ≡ false
+unfolding keys_fit
 fits_many r ks l = grind (arith, nat_tests)
 
-pub fits_long : (r : ReadVerb) (ks : List (List ℕ)) → profile.MOST_LINE_BYTES < length (read_text r ks) → fits r ks ≡ false
-unfolding fits
+pub fits_long : (r : ReadVerb) (ks : List (List ℕ)) → profile.MOST_LINE_BYTES < length (read_text r ks) → keys_fit r ks ≡ false
+unfolding keys_fit
 fits_long r ks l = and_last (nat_le (length ks) MOST_KEYS) (nat_le (length (read_text r ks)) profile.MOST_LINE_BYTES) (grind (arith, nat_tests))
 
 module _ (r : ReadVerb) (ks : List (List ℕ)) (bytes : ℕ) (p : IsPiece r ks bytes) (k : List ℕ) where
@@ -58,13 +58,13 @@ module _ (r : ReadVerb) (ks : List (List ℕ)) (bytes : ℕ) (p : IsPiece r ks b
         short = m;
       }
 
-  pub fits_as : fits r (ks ++ k ∷ []) ≡ has_room (length ks) (bytes + length k + 1)
+  pub fits_as : keys_fit r (ks ++ k ∷ []) ≡ has_room (length ks) (bytes + length k + 1)
   fits_as = by (nat_lt (length ks) MOST_KEYS) (nat_le (bytes + length k + 1) profile.MOST_LINE_BYTES) refl refl
     where
       text_is : length (read_text r (ks ++ k ∷ [])) ≡ bytes + length k + 1
       text_is = text_more r ks k ∙ ap (λ n. n + length k + 1) (sym p.len)
 
-      by : (x y : Bool) → nat_lt (length ks) MOST_KEYS ≡ x → nat_le (bytes + length k + 1) profile.MOST_LINE_BYTES ≡ y → fits r (ks ++ k ∷ []) ≡ (x && y)
+      by : (x y : Bool) → nat_lt (length ks) MOST_KEYS ≡ x → nat_le (bytes + length k + 1) profile.MOST_LINE_BYTES ≡ y → keys_fit r (ks ++ k ∷ []) ≡ (x && y)
       by true true l m =
           let few : length ks < MOST_KEYS = lt_yes (length ks) MOST_KEYS l in
           let short : bytes + length k + 1 ≤ profile.MOST_LINE_BYTES = le_yes (bytes + length k + 1) profile.MOST_LINE_BYTES m in
@@ -78,11 +78,11 @@ module _ (r : ReadVerb) (ks : List (List ℕ)) (bytes : ℕ) (p : IsPiece r ks b
 
   -- the key goes on the piece
   pub goes_on : (more : List (List ℕ)) → has_room (length ks) (bytes + length k + 1) ≡ true → piece_turns r ks (k ∷ more) ≡ piece_turns r (ks ++ k ∷ []) more
-  goes_on more e = taken (fits r (ks ++ k ∷ [])) _ _ (fits_as ∙ e)
+  goes_on more e = taken (keys_fit r (ks ++ k ∷ [])) _ _ (fits_as ∙ e)
 
   -- the key begins the next piece
   pub begins : (more : List (List ℕ)) → has_room (length ks) (bytes + length k + 1) ≡ false → piece_turns r ks (k ∷ more) ≡ Ask (read_command r ks) show.Items ∷ piece_turns r (k ∷ []) more
-  begins more e = chosen (fits r (ks ++ k ∷ [])) _ _ (fits_as ∙ e)
+  begins more e = chosen (keys_fit r (ks ++ k ∷ [])) _ _ (fits_as ∙ e)
 
 -- a key has at most 250 bytes
 pub key_short : (k : List ℕ) → is_key k ≡ true → length k ≤ 250
@@ -101,10 +101,10 @@ one_piece r k n e l key =
       short = omega (arith, small, l);
     }
 
-pub fits_few : (r : ReadVerb) (ks : List (List ℕ)) → fits r ks ≡ true → length ks ≤ MOST_KEYS
-unfolding fits
+pub fits_few : (r : ReadVerb) (ks : List (List ℕ)) → keys_fit r ks ≡ true → length ks ≤ MOST_KEYS
+unfolding keys_fit
 fits_few r ks e = le_yes (length ks) MOST_KEYS (and_parts (nat_le (length ks) MOST_KEYS) (nat_le (length (read_text r ks)) profile.MOST_LINE_BYTES) e).0
 
-pub fits_short : (r : ReadVerb) (ks : List (List ℕ)) → fits r ks ≡ true → length (read_text r ks) ≤ profile.MOST_LINE_BYTES
-unfolding fits
+pub fits_short : (r : ReadVerb) (ks : List (List ℕ)) → keys_fit r ks ≡ true → length (read_text r ks) ≤ profile.MOST_LINE_BYTES
+unfolding keys_fit
 fits_short r ks e = le_yes (length (read_text r ks)) profile.MOST_LINE_BYTES (and_parts (nat_le (length ks) MOST_KEYS) (nat_le (length (read_text r ks)) profile.MOST_LINE_BYTES) e).1

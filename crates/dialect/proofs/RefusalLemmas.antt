@@ -13,7 +13,7 @@ use Rattle.proto.specs.declared.line.Header.{Header}
 use Rattle.proto.specs.declared.line.Kind.TheVariants as kind
 use Rattle.dialect.specs.Number.{unsigned_of, exptime_of, block_size_of}
 use Rattle.dialect.specs.Name.{name_of}
-use Rattle.dialect.specs.Reading.{piece_turns, read_turns, keys_in, fits, read_command}
+use Rattle.dialect.specs.Reading.{piece_turns, read_turns, keys_in, keys_fit, read_command}
 use Rattle.dialect.specs.Line.{says_noreply, is_end, is_delete_end, is_http_version, said, removes, too_large, opened_by, sized, storage, header_of, cas_kind, store_line, cas_line, delete_line, touch_line, delta_line, verbosity_line, timed_line, line_of}
 use Rattle.dialect.specs.Meta.{meta_line}
 use Rattle.dialect.specs.Meaning.{meaning, meaning_of_words, meaning_of_line, unknown, without_return}
@@ -42,7 +42,7 @@ ask_either r ks k more false p q = q
 
 pieces_ask : (r : ReadVerb) (ks more : List (List ℕ)) → speaks (piece_turns r ks more) ≡ false
 pieces_ask r ks [] = refl
-pieces_ask r ks (k ∷ more) = ask_either r ks k more (fits r (ks ++ k ∷ [])) (pieces_ask r (ks ++ k ∷ []) more) (pieces_ask r (k ∷ []) more)
+pieces_ask r ks (k ∷ more) = ask_either r ks k more (keys_fit r (ks ++ k ∷ [])) (pieces_ask r (ks ++ k ∷ []) more) (pieces_ask r (k ∷ []) more)
 
 reads_either : (r : ReadVerb) (ks : List (List ℕ)) → IsEither (read_turns r ks)
 reads_either r [] = inr refl

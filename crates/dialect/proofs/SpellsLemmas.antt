@@ -9,7 +9,7 @@ use Rattle.proto.specs.Grammar.{is_newline}
 use Rattle.proto.specs.Stage.{HasNoNewline}
 use Rattle.dialect.specs.declared.line.Opening.{Opening}
 use Rattle.dialect.specs.Meaning.{meaning, block_turn}
-use Rattle.dialect.specs.State.{State, ReaderStep, state_at, to, start, is_binary, and_then, run, Runs, HoldsWithin}
+use Rattle.dialect.specs.State.{State, ReaderStep, state_at, to, start, is_binary, and_then, read_bytes, Runs, HoldsWithin}
 use Rattle.dialect.specs.Grammar.{IsText, IsOneLine, more_bytes, Spells, part_of_line, part_of_block, line, with_block, unread, closing, too_long, binary, HasRead}
 use Rattle.dialect.specs.Stage.{starts_binary}
 use Rattle.dialect.specs.declared.line.TheConstants.{MOST_LINE_BYTES}
@@ -32,43 +32,43 @@ not_binary (b ∷ text) t = by (is_binary [] b) refl
     by false e = refl
 
 -- a line and its end, and then more
-run_after_line : (text after : List ℕ) → IsOneLine text → run start (text ++ 10 ∷ after) ≡ and_then (meaning text).turns (run (state_at (meaning text).part []) after)
+run_after_line : (text after : List ℕ) → IsOneLine text → read_bytes start (text ++ 10 ∷ after) ≡ and_then (meaning text).turns (read_bytes (state_at (meaning text).part []) after)
 run_after_line text after l =
-    ap (run start) (sym (append_assoc text (10 ∷ []) after))
+    ap (read_bytes start) (sym (append_assoc text (10 ∷ []) after))
     ∙ run-append start (text ++ 10 ∷ []) after
-    ∙ ap (λ (s : ReaderStep). and_then s.turns (run s.state after)) (run_end [] text (not_binary text l.is_text) l.one_line (omega (arith, l.short)))
+    ∙ ap (λ (s : ReaderStep). and_then s.turns (read_bytes s.state after)) (run_end [] text (not_binary text l.is_text) l.one_line (omega (arith, l.short)))
 
-turns_after : (text after : List ℕ) → IsOneLine text → (p : Part) → (meaning text).part ≡ p → (s : ReaderStep) → run (state_at p []) after ≡ s
-    → (meaning text).turns ++ s.turns ≡ (run start (text ++ 10 ∷ after)).turns
+turns_after : (text after : List ℕ) → IsOneLine text → (p : Part) → (meaning text).part ≡ p → (s : ReaderStep) → read_bytes (state_at p []) after ≡ s
+    → (meaning text).turns ++ s.turns ≡ (read_bytes start (text ++ 10 ∷ after)).turns
 turns_after text after l p e s r =
-    ap (λ (t : ReaderStep). (meaning text).turns ++ t.turns) (sym r) ∙ ap (λ (q : Part). (meaning text).turns ++ (run (state_at q []) after).turns) (sym e)
+    ap (λ (t : ReaderStep). (meaning text).turns ++ t.turns) (sym r) ∙ ap (λ (q : Part). (meaning text).turns ++ (read_bytes (state_at q []) after).turns) (sym e)
     ∙ sym (ap (λ (t : ReaderStep). t.turns) (run_after_line text after l))
 
 -- a part of what belongs to a line gives nothing
-part_gives : (p : Part) (block : List ℕ) → length block < more_bytes p → (run (state_at p []) block).turns ≡ []
+part_gives : (p : Part) (block : List ℕ) → length block < more_bytes p → (read_bytes (state_at p []) block).turns ≡ []
 part_gives part.Line block l = absurd (omega arith)
 part_gives (part.Block h) block l = ap (λ (s : ReaderStep). s.turns) (run_block h [] block (omega arith))
 part_gives (part.Unread n turn) block l = ap (λ (s : ReaderStep). s.turns) (run_unread n turn block l)
 part_gives part.Closed block l = absurd (omega arith)
 
 -- some bytes that end at a start, and then more
-run_from_start : (s : State) (a b : List ℕ) (ts : List Turn) → run s a ≡ to ts start → run s (a ++ b) ≡ and_then ts (run start b)
-run_from_start s a b ts e = run-append s a b ∙ ap (λ (t : ReaderStep). and_then t.turns (run t.state b)) e
+run_from_start : (s : State) (a b : List ℕ) (ts : List Turn) → read_bytes s a ≡ to ts start → read_bytes s (a ++ b) ≡ and_then ts (read_bytes start b)
+run_from_start s a b ts e = run-append s a b ∙ ap (λ (t : ReaderStep). and_then t.turns (read_bytes t.state b)) e
 
-pub spelled_is_run : (bytes : List ℕ) (turns : List Turn) → Spells bytes turns → turns ≡ (run start bytes).turns
+pub spelled_is_run : (bytes : List ℕ) (turns : List Turn) → Spells bytes turns → turns ≡ (read_bytes start bytes).turns
 spelled_is_run _ _ (part_of_line text l) = sym (ap (λ (s : ReaderStep). s.turns) (run_line [] text (not_binary text l.is_text) l.one_line (omega (arith, l.short))))
 spelled_is_run _ _ (part_of_block text block l e) =
     sym (append-nil (meaning text).turns) ∙ ap (λ (ts : List Turn). (meaning text).turns ++ ts) (sym (part_gives (meaning text).part block e))
-    ∙ turns_after text block l (meaning text).part refl (run (state_at (meaning text).part []) block) refl
+    ∙ turns_after text block l (meaning text).part refl (read_bytes (state_at (meaning text).part []) block) refl
 spelled_is_run _ _ (line text after turns l e s) =
-    ap (λ (ts : List Turn). (meaning text).turns ++ ts) (spelled_is_run after turns s) ∙ turns_after text after l part.Line e (run start after) refl
+    ap (λ (ts : List Turn). (meaning text).turns ++ ts) (spelled_is_run after turns s) ∙ turns_after text after l part.Line e (read_bytes start after) refl
 spelled_is_run _ _ (with_block text block after turns h l e n s) =
     ap (λ (ts : List Turn). (meaning text).turns ++ (option_to_list (block_turn h block) ++ ts)) (spelled_is_run after turns s)
-    ∙ turns_after text (block ++ after) l (part.Block h) e (and_then (option_to_list (block_turn h block)) (run start after))
+    ∙ turns_after text (block ++ after) l (part.Block h) e (and_then (option_to_list (block_turn h block)) (read_bytes start after))
     (run_from_start (state_at (part.Block h) []) block after (option_to_list (block_turn h block)) (run_whole_block h [] block (omega arith) (omega arith)))
 spelled_is_run _ _ (unread text block after turns n turn l e m s) =
     ap (λ (ts : List Turn). (meaning text).turns ++ (option_to_list turn ++ ts)) (spelled_is_run after turns s)
-    ∙ turns_after text (block ++ after) l (part.Unread n turn) e (and_then (option_to_list turn) (run start after))
+    ∙ turns_after text (block ++ after) l (part.Unread n turn) e (and_then (option_to_list turn) (read_bytes start after))
     (run_from_start (state_at (part.Unread n turn) []) block after (option_to_list turn) (run_all_unread n turn block (some_bytes text n turn e block m) m))
   where
     some_bytes : (text : List ℕ) (n : ℕ) (turn : Option Turn) → (meaning text).part ≡ part.Unread n turn → (block : List ℕ) → length block ≡ n → 0 < length block
@@ -80,7 +80,7 @@ spelled_is_run _ _ (closing text after l e) =
     sym (append-nil (meaning text).turns) ∙ turns_after text after l part.Closed e (to [] (state_at part.Closed [])) (run_closed after)
 spelled_is_run _ _ (too_long text after h n t) = sym (ap (λ (s : ReaderStep). s.turns)
     (run-append start text after
-    ∙ ap (λ (s : ReaderStep). and_then s.turns (run s.state after)) (run_long [] text (not_binary text t) h (omega arith) (omega arith))
+    ∙ ap (λ (s : ReaderStep). and_then s.turns (read_bytes s.state after)) (run_long [] text (not_binary text t) h (omega arith) (omega arith))
     ∙ ap (λ (s : ReaderStep). and_then (Close notice.LineTooLong ∷ []) s) (run_closed after)))
 spelled_is_run _ _ (binary after) = sym (ap (λ (s : ReaderStep). s.turns) (run_binary after))
 
@@ -111,11 +111,11 @@ empty_line = record { one_line = refl; short = lit< tt; is_text = tt }
 
 -- What is left of a stream is spelled, whatever is read of the first line.
 record Sound (bytes : List ℕ) : Type 0 where
-  in_line : (text : List ℕ) → IsOneLine text → Spells (text ++ bytes) (run (state_at part.Line text) bytes).turns
+  in_line : (text : List ℕ) → IsOneLine text → Spells (text ++ bytes) (read_bytes (state_at part.Line text) bytes).turns
   in_block : (text : List ℕ) (h : Opening) (block : List ℕ) → IsOneLine text → (meaning text).part ≡ part.Block h → length block < h.header.size + 2
-      → Spells (text ++ 10 ∷ (block ++ bytes)) ((meaning text).turns ++ (run (state_at (part.Block h) block) bytes).turns)
+      → Spells (text ++ 10 ∷ (block ++ bytes)) ((meaning text).turns ++ (read_bytes (state_at (part.Block h) block) bytes).turns)
   in_unread : (text : List ℕ) (n : ℕ) (turn : Option Turn) (skipped : List ℕ) (left : ℕ) → IsOneLine text → (meaning text).part ≡ part.Unread n turn
-      → length skipped + left ≡ n → 0 < left → Spells (text ++ 10 ∷ (skipped ++ bytes)) ((meaning text).turns ++ (run (state_at (part.Unread left turn) []) bytes).turns)
+      → length skipped + left ≡ n → 0 < left → Spells (text ++ 10 ∷ (skipped ++ bytes)) ((meaning text).turns ++ (read_bytes (state_at (part.Unread left turn) []) bytes).turns)
 
 -- the same turns, of the same bytes
 spells_as : (a b : List ℕ) (ts us : List Turn) → a ≡ b → ts ≡ us → Spells a ts → Spells b us
@@ -126,30 +126,30 @@ push_front xs b bytes = append_assoc xs (b ∷ []) bytes
 
 module _ (b : ℕ) (bytes : List ℕ) (ih : Sound bytes) where
   -- the line ends
-  line_end : (text : List ℕ) → IsOneLine text → (p : Part) → (meaning text).part ≡ p → Spells (text ++ 10 ∷ bytes) ((meaning text).turns ++ (run (state_at (meaning text).part []) bytes).turns)
-  line_end text l part.Line e = subst (λ (p : Part). Spells (text ++ 10 ∷ bytes) ((meaning text).turns ++ (run (state_at p []) bytes).turns)) (sym e)
-      (line text bytes (run start bytes).turns l e (ih.in_line [] empty_line))
-  line_end text l (part.Block h) e = subst (λ (p : Part). Spells (text ++ 10 ∷ bytes) ((meaning text).turns ++ (run (state_at p []) bytes).turns)) (sym e)
+  line_end : (text : List ℕ) → IsOneLine text → (p : Part) → (meaning text).part ≡ p → Spells (text ++ 10 ∷ bytes) ((meaning text).turns ++ (read_bytes (state_at (meaning text).part []) bytes).turns)
+  line_end text l part.Line e = subst (λ (p : Part). Spells (text ++ 10 ∷ bytes) ((meaning text).turns ++ (read_bytes (state_at p []) bytes).turns)) (sym e)
+      (line text bytes (read_bytes start bytes).turns l e (ih.in_line [] empty_line))
+  line_end text l (part.Block h) e = subst (λ (p : Part). Spells (text ++ 10 ∷ bytes) ((meaning text).turns ++ (read_bytes (state_at p []) bytes).turns)) (sym e)
       (ih.in_block text h [] l e (omega arith))
-  line_end text l (part.Unread n turn) e = subst (λ (p : Part). Spells (text ++ 10 ∷ bytes) ((meaning text).turns ++ (run (state_at p []) bytes).turns)) (sym e)
+  line_end text l (part.Unread n turn) e = subst (λ (p : Part). Spells (text ++ 10 ∷ bytes) ((meaning text).turns ++ (read_bytes (state_at p []) bytes).turns)) (sym e)
       (let within = subst (λ (p : Part). HoldsWithin p []) e (meaning_within text) in ih.in_unread text n turn [] n l e (omega arith) within.0)
-  line_end text l part.Closed e = subst (λ (p : Part). Spells (text ++ 10 ∷ bytes) ((meaning text).turns ++ (run (state_at p []) bytes).turns)) (sym e)
+  line_end text l part.Closed e = subst (λ (p : Part). Spells (text ++ 10 ∷ bytes) ((meaning text).turns ++ (read_bytes (state_at p []) bytes).turns)) (sym e)
       (spells_as (text ++ 10 ∷ bytes) (text ++ 10 ∷ bytes) (meaning text).turns _ refl (sym (append-nil (meaning text).turns) ∙ ap (λ (s : ReaderStep). (meaning text).turns ++ s.turns) (sym (run_closed bytes)))
       (closing text bytes l e))
 
   in_line : (text : List ℕ) → IsOneLine text → (x y z : Bool) → is_binary text b ≡ x → is_newline b ≡ y → nat_le MOST_LINE_BYTES (length text + 1) ≡ z
-      → Spells (text ++ b ∷ bytes) (run (state_at part.Line text) (b ∷ bytes)).turns
+      → Spells (text ++ b ∷ bytes) (read_bytes (state_at part.Line text) (b ∷ bytes)).turns
   in_line text l true y z q e n = of_binary text q
     where
-      of_binary : (text : List ℕ) → is_binary text b ≡ true → Spells (text ++ b ∷ bytes) (run (state_at part.Line text) (b ∷ bytes)).turns
+      of_binary : (text : List ℕ) → is_binary text b ≡ true → Spells (text ++ b ∷ bytes) (read_bytes (state_at part.Line text) (b ∷ bytes)).turns
       of_binary [] q =
           let is : 128 ≡ b = is_128 b q in
-          subst (λ (c : ℕ). Spells (c ∷ bytes) (run start (c ∷ bytes)).turns) is
+          subst (λ (c : ℕ). Spells (c ∷ bytes) (read_bytes start (c ∷ bytes)).turns) is
           (spells_as (128 ∷ bytes) (128 ∷ bytes) (Close notice.Binary ∷ []) _ refl (sym (ap (λ (s : ReaderStep). s.turns) (run_binary bytes))) (binary bytes))
       of_binary (c ∷ text) q = absurd (let f : false ≡ true = q in cc)
   in_line text l false true z q e n =
       let is : 10 ≡ b = is_10 b e in
-      subst (λ (c : ℕ). Spells (text ++ c ∷ bytes) (run (state_at part.Line text) (c ∷ bytes)).turns) is
+      subst (λ (c : ℕ). Spells (text ++ c ∷ bytes) (read_bytes (state_at part.Line text) (c ∷ bytes)).turns) is
       (spells_as (text ++ 10 ∷ bytes) (text ++ 10 ∷ bytes) _ _ refl (sym (ap (λ (s : ReaderStep). s.turns) (run_first (state_at part.Line text) 10 bytes _ (line_ends text)))) (line_end text l (meaning text).part refl))
   in_line text l false false true q e n =
       let long : MOST_LINE_BYTES ≤ length text + 1 = le_yes MOST_LINE_BYTES (length text + 1) n in
@@ -165,32 +165,32 @@ module _ (b : ℕ) (bytes : List ℕ) (ih : Sound bytes) where
 
   in_block : (text : List ℕ) (h : Opening) (block : List ℕ) → IsOneLine text → (meaning text).part ≡ part.Block h → length block < h.header.size + 2
       → (x : Bool) → nat_le (h.header.size + 2) (length block + 1) ≡ x
-      → Spells (text ++ 10 ∷ (block ++ b ∷ bytes)) ((meaning text).turns ++ (run (state_at (part.Block h) block) (b ∷ bytes)).turns)
+      → Spells (text ++ 10 ∷ (block ++ b ∷ bytes)) ((meaning text).turns ++ (read_bytes (state_at (part.Block h) block) (b ∷ bytes)).turns)
   in_block text h block l e short true n =
       let enough : h.header.size + 2 ≤ length block + 1 = le_yes (h.header.size + 2) (length block + 1) n in
       let whole : length block + 1 ≡ h.header.size + 2 = omega (arith, enough, short) in
       spells_as (text ++ 10 ∷ ((block ++ b ∷ []) ++ bytes)) _ _ _ (ap (λ (ys : List ℕ). text ++ 10 ∷ ys) (push_front block b bytes))
       (ap (λ (s : ReaderStep). (meaning text).turns ++ s.turns) (sym (run_from_start (state_at (part.Block h) block) (b ∷ []) bytes _ (run_whole_block h block (b ∷ []) (lit< tt) whole))))
-      (with_block text (block ++ b ∷ []) bytes (run start bytes).turns h l e (length-append block (b ∷ []) ∙ whole) (ih.in_line [] empty_line))
+      (with_block text (block ++ b ∷ []) bytes (read_bytes start bytes).turns h l e (length-append block (b ∷ []) ∙ whole) (ih.in_line [] empty_line))
   in_block text h block l e short false n =
       let more : length block + 1 < h.header.size + 2 = le_no (h.header.size + 2) (length block + 1) n in
       spells_as (text ++ 10 ∷ ((block ++ b ∷ []) ++ bytes)) _ _ _ (ap (λ (ys : List ℕ). text ++ 10 ∷ ys) (push_front block b bytes))
-      (ap (λ (s : ReaderStep). (meaning text).turns ++ s.turns) (sym (run-append (state_at (part.Block h) block) (b ∷ []) bytes ∙ ap (λ (s : ReaderStep). and_then s.turns (run s.state bytes)) (run_block h block (b ∷ []) more))))
+      (ap (λ (s : ReaderStep). (meaning text).turns ++ s.turns) (sym (run-append (state_at (part.Block h) block) (b ∷ []) bytes ∙ ap (λ (s : ReaderStep). and_then s.turns (read_bytes s.state bytes)) (run_block h block (b ∷ []) more))))
       (ih.in_block text h (block ++ b ∷ []) l e (rw (length-append block (b ∷ [])) more))
 
   in_unread : (text : List ℕ) (n : ℕ) (turn : Option Turn) (skipped : List ℕ) (left : ℕ) → IsOneLine text → (meaning text).part ≡ part.Unread n turn
       → length skipped + left ≡ n → 0 < left → (x : Bool) → nat_le left 1 ≡ x
-      → Spells (text ++ 10 ∷ (skipped ++ b ∷ bytes)) ((meaning text).turns ++ (run (state_at (part.Unread left turn) []) (b ∷ bytes)).turns)
+      → Spells (text ++ 10 ∷ (skipped ++ b ∷ bytes)) ((meaning text).turns ++ (read_bytes (state_at (part.Unread left turn) []) (b ∷ bytes)).turns)
   in_unread text n turn skipped left l e m some true is =
       let few : left ≤ 1 = le_yes left 1 is in
       let one : 1 ≡ left = omega (arith, few, some) in
       spells_as (text ++ 10 ∷ ((skipped ++ b ∷ []) ++ bytes)) _ _ _ (ap (λ (ys : List ℕ). text ++ 10 ∷ ys) (push_front skipped b bytes))
       (ap (λ (s : ReaderStep). (meaning text).turns ++ s.turns) (sym (run_from_start (state_at (part.Unread left turn) []) (b ∷ []) bytes _ (run_all_unread left turn (b ∷ []) (lit< tt) one))))
-      (unread text (skipped ++ b ∷ []) bytes (run start bytes).turns n turn l e (rw (length-append skipped (b ∷ [])) (omega (arith, one, m))) (ih.in_line [] empty_line))
+      (unread text (skipped ++ b ∷ []) bytes (read_bytes start bytes).turns n turn l e (rw (length-append skipped (b ∷ [])) (omega (arith, one, m))) (ih.in_line [] empty_line))
   in_unread text n turn skipped left l e m some false is =
       let more : 1 < left = le_no left 1 is in
       spells_as (text ++ 10 ∷ ((skipped ++ b ∷ []) ++ bytes)) _ _ _ (ap (λ (ys : List ℕ). text ++ 10 ∷ ys) (push_front skipped b bytes))
-      (ap (λ (s : ReaderStep). (meaning text).turns ++ s.turns) (sym (run-append (state_at (part.Unread left turn) []) (b ∷ []) bytes ∙ ap (λ (s : ReaderStep). and_then s.turns (run s.state bytes)) (run_unread left turn (b ∷ []) more))))
+      (ap (λ (s : ReaderStep). (meaning text).turns ++ s.turns) (sym (run-append (state_at (part.Unread left turn) []) (b ∷ []) bytes ∙ ap (λ (s : ReaderStep). and_then s.turns (read_bytes s.state bytes)) (run_unread left turn (b ∷ []) more))))
       (ih.in_unread text n turn (skipped ++ b ∷ []) (left - 1) l e (rw (length-append skipped (b ∷ [])) (omega (arith, more, m))) (omega (arith, more)))
 
 sound : (bytes : List ℕ) → Sound bytes
@@ -213,7 +213,7 @@ sound (b ∷ bytes) =
       in_unread = λ text n turn skipped left l e m some. in_unread b bytes ih text n turn skipped left l e m some (nat_le left 1) refl;
     }
 
-pub run_is_spelled : (bytes : List ℕ) → Spells bytes (run start bytes).turns
+pub run_is_spelled : (bytes : List ℕ) → Spells bytes (read_bytes start bytes).turns
 run_is_spelled bytes = (sound bytes).in_line [] empty_line
 
 pub spells_one : (bytes : List ℕ) (turns others : List Turn) → Spells bytes turns → Spells bytes others → turns ≡ others
@@ -221,8 +221,8 @@ spells_one bytes turns others s t = spelled_is_run bytes turns s ∙ sym (spelle
 
 pub spells_longer : (bytes more : List ℕ) (turns later : List Turn) → Spells bytes turns → Spells (bytes ++ more) later → (added : List Turn) × (later ≡ turns ++ added)
 spells_longer bytes more turns later s t = (
-  (run (run start bytes).state more).turns,
-  spelled_is_run (bytes ++ more) later t ∙ ap (λ (r : ReaderStep). r.turns) (run-append start bytes more) ∙ ap (λ (ts : List Turn). ts ++ (run (run start bytes).state more).turns) (sym (spelled_is_run bytes turns s)),
+  (read_bytes (read_bytes start bytes).state more).turns,
+  spelled_is_run (bytes ++ more) later t ∙ ap (λ (r : ReaderStep). r.turns) (run-append start bytes more) ∙ ap (λ (ts : List Turn). ts ++ (read_bytes (read_bytes start bytes).state more).turns) (sym (spelled_is_run bytes turns s)),
 )
 
 -- nothing was read
@@ -236,10 +236,10 @@ none_read = record {
 -- a piece after what was read
 pub read_on : (fed piece : List ℕ) (before turns : List Turn) (old new : State) → HasRead fed before old → Runs old piece [] turns new → HasRead (fed ++ piece) (before ++ turns) new
 read_on fed piece before turns old new h r =
-    let next : ReaderStep = run (run start fed).state piece in
-    let same : run old piece ≡ next = ap (λ (s : State). run s piece) h.stands in
-    let all : before ++ turns ≡ (run start (fed ++ piece)).turns =
-    ap (λ (ts : List Turn). ts ++ turns) h.all ∙ ap (λ (ts : List Turn). (run start fed).turns ++ ts) (r.turns ∙ ap (λ (s : ReaderStep). s.turns) same) ∙ sym (ap (λ (s : ReaderStep). s.turns) (run-append start fed piece)) in
+    let next : ReaderStep = read_bytes (read_bytes start fed).state piece in
+    let same : read_bytes old piece ≡ next = ap (λ (s : State). read_bytes s piece) h.stands in
+    let all : before ++ turns ≡ (read_bytes start (fed ++ piece)).turns =
+    ap (λ (ts : List Turn). ts ++ turns) h.all ∙ ap (λ (ts : List Turn). (read_bytes start fed).turns ++ ts) (r.turns ∙ ap (λ (s : ReaderStep). s.turns) same) ∙ sym (ap (λ (s : ReaderStep). s.turns) (run-append start fed piece)) in
     record {
       spells = subst (λ (ts : List Turn). Spells (fed ++ piece) ts) (sym all) (run_is_spelled (fed ++ piece));
       all = all;

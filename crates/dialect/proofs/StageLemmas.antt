@@ -6,7 +6,7 @@ use Rattle.std.proofs.lemmas.List.{take_all, take_at, append_assoc, append-nil, 
 use Rattle.std.proofs.lemmas.Bool.Decides.{nat_tests}
 use Rattle.dialect.specs.declared.line.Opening.{Opening}
 use Rattle.dialect.specs.Meaning.{meaning, block_turn}
-use Rattle.dialect.specs.State.{State, state_at, to, start, run, Runs, IsReaderState}
+use Rattle.dialect.specs.State.{State, state_at, to, start, read_bytes, Runs, IsReaderState}
 use Rattle.proto.specs.Stage.{HasNoNewline}
 use Rattle.dialect.specs.Stage.{starts_binary, EndsNothing, IsPartRead, CutsLine, IsBlockOf, IsUnreadOf}
 use Rattle.dialect.specs.declared.line.TheConstants.{MOST_LINE_BYTES}
@@ -29,46 +29,46 @@ on_ok (Err x) now more same Q e f = tt
 
 -- A piece that ends nothing.
 
-pub line_goes_on : (held piece : List ℕ) → EndsNothing part.Line held piece → run (state_at part.Line held) piece ≡ to [] (state_at part.Line (held ++ piece))
+pub line_goes_on : (held piece : List ℕ) → EndsNothing part.Line held piece → read_bytes (state_at part.Line held) piece ≡ to [] (state_at part.Line (held ++ piece))
 line_goes_on held piece g = run_line held piece g.0 g.1 g.2
 
-pub block_goes_on : (h : Opening) (held piece : List ℕ) → EndsNothing (part.Block h) held piece → run (state_at (part.Block h) held) piece ≡ to [] (state_at (part.Block h) (held ++ piece))
+pub block_goes_on : (h : Opening) (held piece : List ℕ) → EndsNothing (part.Block h) held piece → read_bytes (state_at (part.Block h) held) piece ≡ to [] (state_at (part.Block h) (held ++ piece))
 block_goes_on h held piece g = run_block h held piece g
 
 pub unread_goes_on : (left : ℕ) (turn : Option Turn) (held piece : List ℕ) → held ≡ [] → EndsNothing (part.Unread left turn) held piece
-    → run (state_at (part.Unread left turn) held) piece ≡ to [] (state_at (part.Unread (left - length piece) turn) held)
+    → read_bytes (state_at (part.Unread left turn) held) piece ≡ to [] (state_at (part.Unread (left - length piece) turn) held)
 unread_goes_on left turn held piece e g =
-    ap (λ (ys : List ℕ). run (state_at (part.Unread left turn) ys) piece) e ∙ run_unread left turn piece g ∙ ap (λ (ys : List ℕ). to [] (state_at (part.Unread (left - length piece) turn) ys)) (sym e)
+    ap (λ (ys : List ℕ). read_bytes (state_at (part.Unread left turn) ys) piece) e ∙ run_unread left turn piece g ∙ ap (λ (ys : List ℕ). to [] (state_at (part.Unread (left - length piece) turn) ys)) (sym e)
 
-pub closed_goes_on : (held piece : List ℕ) → held ≡ [] → run (state_at part.Closed held) piece ≡ to [] (state_at part.Closed held)
+pub closed_goes_on : (held piece : List ℕ) → held ≡ [] → read_bytes (state_at part.Closed held) piece ≡ to [] (state_at part.Closed held)
 closed_goes_on held piece e =
-    ap (λ (ys : List ℕ). run (state_at part.Closed ys) piece) e ∙ run_closed piece ∙ ap (λ (ys : List ℕ). to [] (state_at part.Closed ys)) (sym e)
+    ap (λ (ys : List ℕ). read_bytes (state_at part.Closed ys) piece) e ∙ run_closed piece ∙ ap (λ (ys : List ℕ). to [] (state_at part.Closed ys)) (sym e)
 
 -- the same, if the part is known by an equation
-pub line_extends : (p : Part) (held piece now : List ℕ) → p ≡ part.Line → EndsNothing p held piece → now ≡ held ++ piece → run (state_at p held) piece ≡ to [] (state_at p now)
+pub line_extends : (p : Part) (held piece now : List ℕ) → p ≡ part.Line → EndsNothing p held piece → now ≡ held ++ piece → read_bytes (state_at p held) piece ≡ to [] (state_at p now)
 line_extends p held piece now is g e =
-    subst (λ (q : Part). run (state_at q held) piece ≡ to [] (state_at q now)) (sym is)
+    subst (λ (q : Part). read_bytes (state_at q held) piece ≡ to [] (state_at q now)) (sym is)
     (line_goes_on held piece (subst (λ (q : Part). EndsNothing q held piece) is g) ∙ ap (λ (ys : List ℕ). to [] (state_at part.Line ys)) (sym e))
 
-pub block_extends : (p : Part) (h : Opening) (held piece now : List ℕ) → p ≡ part.Block h → EndsNothing p held piece → now ≡ held ++ piece → run (state_at p held) piece ≡ to [] (state_at p now)
+pub block_extends : (p : Part) (h : Opening) (held piece now : List ℕ) → p ≡ part.Block h → EndsNothing p held piece → now ≡ held ++ piece → read_bytes (state_at p held) piece ≡ to [] (state_at p now)
 block_extends p h held piece now is g e =
-    subst (λ (q : Part). run (state_at q held) piece ≡ to [] (state_at q now)) (sym is)
+    subst (λ (q : Part). read_bytes (state_at q held) piece ≡ to [] (state_at q now)) (sym is)
     (block_goes_on h held piece (subst (λ (q : Part). EndsNothing q held piece) is g) ∙ ap (λ (ys : List ℕ). to [] (state_at (part.Block h) ys)) (sym e))
 
 pub unread_short : (p : Part) (left : ℕ) (turn : Option Turn) (held piece : List ℕ) → p ≡ part.Unread left turn → EndsNothing p held piece → length piece < left
 unread_short p left turn held piece is g = subst (λ (q : Part). EndsNothing q held piece) is g
 
 pub unread_extends : (p : Part) (left now : ℕ) (turn : Option Turn) (held piece : List ℕ) → p ≡ part.Unread left turn → IsReaderState (state_at p held) → EndsNothing p held piece → now ≡ left - length piece
-    → run (state_at p held) piece ≡ to [] (state_at (part.Unread now turn) held)
+    → read_bytes (state_at p held) piece ≡ to [] (state_at (part.Unread now turn) held)
 unread_extends p left now turn held piece is within g e =
     let in_unread : IsReaderState (state_at (part.Unread left turn) held) = subst (λ (q : Part). IsReaderState (state_at q held)) is within in
-    subst (λ (q : Part). run (state_at q held) piece ≡ to [] (state_at (part.Unread now turn) held)) (sym is)
+    subst (λ (q : Part). read_bytes (state_at q held) piece ≡ to [] (state_at (part.Unread now turn) held)) (sym is)
     (unread_goes_on left turn held piece in_unread.1 (unread_short p left turn held piece is g) ∙ ap (λ (n : ℕ). to [] (state_at (part.Unread n turn) held)) (sym e))
 
-pub closed_extends : (p : Part) (held piece : List ℕ) → p ≡ part.Closed → IsReaderState (state_at p held) → run (state_at p held) piece ≡ to [] (state_at p held)
+pub closed_extends : (p : Part) (held piece : List ℕ) → p ≡ part.Closed → IsReaderState (state_at p held) → read_bytes (state_at p held) piece ≡ to [] (state_at p held)
 closed_extends p held piece is within =
     let none : held ≡ [] = subst (λ (q : Part). IsReaderState (state_at q held)) is within in
-    subst (λ (q : Part). run (state_at q held) piece ≡ to [] (state_at q held)) (sym is) (closed_goes_on held piece none)
+    subst (λ (q : Part). read_bytes (state_at q held) piece ≡ to [] (state_at q held)) (sym is) (closed_goes_on held piece none)
 
 -- the first byte of the binary protocol
 pub binary_held : (held piece : List ℕ) → starts_binary held piece ≡ true → held ≡ []
@@ -76,11 +76,11 @@ binary_held held [] e = absurd (let f : false ≡ true = e in cc)
 binary_held [] (b ∷ piece) e = refl
 binary_held (c ∷ held) (b ∷ piece) e = absurd (let f : false ≡ true = e in cc)
 
-binary_first : (held piece : List ℕ) → starts_binary held piece ≡ true → run (state_at part.Line held) (take 1 piece) ≡ to (Close notice.Binary ∷ []) (state_at part.Closed [])
+binary_first : (held piece : List ℕ) → starts_binary held piece ≡ true → read_bytes (state_at part.Line held) (take 1 piece) ≡ to (Close notice.Binary ∷ []) (state_at part.Closed [])
 binary_first held [] e = absurd (let f : false ≡ true = e in cc)
 binary_first [] (b ∷ piece) e =
     let is : 128 ≡ b = is_128 b e in
-    subst (λ (c : ℕ). run start (c ∷ []) ≡ to (Close notice.Binary ∷ []) (state_at part.Closed [])) is (run_binary [])
+    subst (λ (c : ℕ). read_bytes start (c ∷ []) ≡ to (Close notice.Binary ∷ []) (state_at part.Closed [])) is (run_binary [])
 binary_first (c ∷ held) (b ∷ piece) e = absurd (let f : false ≡ true = e in cc)
 
 module _ (held piece : List ℕ) (before after : List Turn) where
@@ -130,10 +130,10 @@ module _ (held piece : List ℕ) (before after : List Turn) where
       → Runs (state_at (part.Unread left turn) held) (take left piece) before after new
   unread_runs left turn new e some m t n =
       let count : length (take left piece) ≡ left = rw (length-take left piece) (grind (arith, nat_tests)) in
-      runs_by _ _ before after new _ (ap (λ (ys : List ℕ). run (state_at (part.Unread left turn) ys) (take left piece)) e ∙ run_all_unread left turn (take left piece) (omega (arith, count, some)) count) t n
+      runs_by _ _ before after new _ (ap (λ (ys : List ℕ). read_bytes (state_at (part.Unread left turn) ys) (take left piece)) e ∙ run_all_unread left turn (take left piece) (omega (arith, count, some)) count) t n
 
   -- all of a piece that ends nothing
-  pub none_runs : (old new : State) → run old piece ≡ to [] new → after ≡ before → Runs old (take (length piece) piece) before after new
+  pub none_runs : (old new : State) → read_bytes old piece ≡ to [] new → after ≡ before → Runs old (take (length piece) piece) before after new
   none_runs old new e t = subst (λ (ys : List ℕ). Runs old ys before after new) (sym (take_whole piece)) (runs_by old piece before after new (to [] new) e (t ∙ sym (append-nil before)) refl)
 
 -- Steps of code: the part is known by an equation.

@@ -4,7 +4,7 @@ use Rattle.std.specs.List.{list_any}
 use Rattle.std.specs.Option.{option_to_list}
 use Rattle.proto.specs.Grammar.{is_newline}
 use Rattle.dialect.specs.Meaning.{meaning, block_turn}
-use Rattle.dialect.specs.State.{State, start, run}
+use Rattle.dialect.specs.State.{State, start, read_bytes}
 use Rattle.dialect.specs.declared.line.Opening.{Opening}
 use Rattle.dialect.specs.declared.line.TheConstants.{MOST_LINE_BYTES}
 use Rattle.dialect.specs.declared.turn.Notice.TheVariants as notice
@@ -51,5 +51,5 @@ pub data Spells : List ℕ → List Turn → Type 0 where
 -- These bytes were read, they spell these turns, and the reader is at this state.
 pub record HasRead (bytes : List ℕ) (turns : List Turn) (state : State) : Type 0 where
   pub spells : Spells bytes turns
-  pub all : turns ≡ (run start bytes).turns
-  pub stands : state ≡ (run start bytes).state
+  pub all : turns ≡ (read_bytes start bytes).turns
+  pub stands : state ≡ (read_bytes start bytes).state

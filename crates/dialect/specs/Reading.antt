@@ -29,22 +29,22 @@ head Gets = codes "gets"
 head (Gat exptime) = codes "gat " ++ signed_decimal exptime
 head (Gats exptime) = codes "gats " ++ signed_decimal exptime
 
-abbrev pub key_text : List ℕ → List ℕ
-key_text k = 32 ∷ k
+abbrev pub spaced_key : List ℕ → List ℕ
+spaced_key k = 32 ∷ k
 
 -- its line, as the profile has it
 unfoldable pub read_text : ReadVerb → List (List ℕ) → List ℕ
-read_text r ks = head r ++ (flat_map key_text ks ++ codes "\r\n")
+read_text r ks = head r ++ (flat_map spaced_key ks ++ codes "\r\n")
 
 -- The keys fit on one line of the profile.
-unfoldable pub fits : ReadVerb → List (List ℕ) → Bool
-fits r ks = nat_le (length ks) MOST_KEYS && nat_le (length (read_text r ks)) profile.MOST_LINE_BYTES
+unfoldable pub keys_fit : ReadVerb → List (List ℕ) → Bool
+keys_fit r ks = nat_le (length ks) MOST_KEYS && nat_le (length (read_text r ks)) profile.MOST_LINE_BYTES
 
 -- the turns for these keys, which the line of a command has so far, and those after them: each command takes as many as fit
 abbrev pub piece_turns : ReadVerb → List (List ℕ) → List (List ℕ) → List Turn
 piece_turns r ks [] = Ask (read_command r ks) show.Whole ∷ []
 piece_turns r ks (k ∷ more) =
-    if fits r (ks ++ k ∷ []) then piece_turns r (ks ++ k ∷ []) more
+    if keys_fit r (ks ++ k ∷ []) then piece_turns r (ks ++ k ∷ []) more
     else Ask (read_command r ks) show.Items ∷ piece_turns r (k ∷ []) more
 
 -- what is said if there is no key

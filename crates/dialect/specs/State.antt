@@ -56,21 +56,21 @@ part_step (part.Block o) held b = block_step o (held ++ b ∷ [])
 part_step (part.Unread left turn) held b = unread_step left turn
 part_step part.Closed held b = to [] (state_at part.Closed [])
 
-unfoldable pub step : State → ℕ → ReaderStep
-step s b = part_step s.part s.held b
+unfoldable pub read_byte : State → ℕ → ReaderStep
+read_byte s b = part_step s.part s.held b
 
 abbrev pub and_then : List Turn → ReaderStep → ReaderStep
 and_then turns s = to (turns ++ s.turns) s.state
 
 -- the turns that the bytes end from a state on, and the state after them
-unfoldable pub run : State → List ℕ → ReaderStep
-run s [] = to [] s
-run s (b ∷ bytes) = and_then (step s b).turns (run (step s b).state bytes)
+unfoldable pub read_bytes : State → List ℕ → ReaderStep
+read_bytes s [] = to [] s
+read_bytes s (b ∷ bytes) = and_then (read_byte s b).turns (read_bytes (read_byte s b).state bytes)
 
 -- The bytes were read from one state to another, and these turns came to those before.
 pub record Runs (old : State) (bytes : List ℕ) (before after : List Turn) (new : State) : Type 0 where
-  pub turns : after ≡ before ++ (run old bytes).turns
-  pub state : new ≡ (run old bytes).state
+  pub turns : after ≡ before ++ (read_bytes old bytes).turns
+  pub state : new ≡ (read_bytes old bytes).state
 
 -- what is held is within its limits
 abbrev pub HoldsWithin : Part → List ℕ → Type 0

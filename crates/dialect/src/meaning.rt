@@ -32,7 +32,7 @@ fn key_of(alloc: Global, word: &[u8]) -> Result<Option<Key>, AllocError>
     if !is_key_text(word) {
         return Ok(None);
     }
-    Ok(Some(Key::new(Vec::from_slice(alloc, word)?)))
+    Ok(Some(Key::from_slice(alloc, word)?))
 }
 
 /// Whether the last word is `noreply`.

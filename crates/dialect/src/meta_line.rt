@@ -44,7 +44,7 @@ fn checked(
     if let Some(notice) = first_fault(meta, flags) {
         return Ok(Err(notice));
     }
-    Ok(Ok(Key::new(Vec::from_slice(alloc, word)?)))
+    Ok(Ok(Key::from_slice(alloc, word)?))
 }
 
 fn one_key(alloc: Global, key: Key) -> Result<Keys, AllocError>

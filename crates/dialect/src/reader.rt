@@ -1,7 +1,7 @@
 //! A client's stream, piece by piece.
 
 ghost use Rattle.std.specs.Prelude.{◌≡◌, ◌≤◌, ◌+◌, ◌++◌, [], List, ℕ, length, IfOk, OnOk, OnErr};
-ghost use Rattle.dialect.specs.State.{Runs, IsReaderState, start, run};
+ghost use Rattle.dialect.specs.State.{Runs, IsReaderState, start, read_bytes};
 ghost use Rattle.dialect.specs.Grammar.{HasRead};
 ghost use Rattle.dialect.specs.Stage.{stage_state};
 ghost use Rattle.dialect.specs.declared.turn.Turn.{Turn as TurnValue};

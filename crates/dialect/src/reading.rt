@@ -77,7 +77,7 @@ fn one_key(alloc: Global, word: &[u8]) -> Result<Vec<Key>, AllocError>
     ensures { IfOk result (λ keys. keys.items ≡ word.now ∷ []) }
 {
     let mut keys = Vec::new(alloc);
-    keys.push(Key::new(Vec::from_slice(alloc, word)?))?;
+    keys.push(Key::from_slice(alloc, word)?)?;
     Ok(keys)
 }
 
@@ -115,7 +115,7 @@ fn push_key(
 {
     let longer = bytes + word.len() + 1;
     if has_room(keys.len(), longer) {
-        keys.push(Key::new(Vec::from_slice(alloc, word)?))?;
+        keys.push(Key::from_slice(alloc, word)?)?;
         return Ok(longer);
     }
     let (first, bytes) = first_key(alloc, reading, word)?;

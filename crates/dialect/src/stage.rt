@@ -9,7 +9,7 @@ ghost use Rattle.proto.specs.declared.block.TheConstants.{MOST_BLOCK_BYTES};
 ghost use Rattle.dialect.specs.declared.line.TheConstants.{MOST_LINE_BYTES};
 ghost use Rattle.dialect.specs.declared.line.Opening.{Opening as OpeningValue};
 ghost use Rattle.dialect.specs.Meaning.{meaning, block_turn as block_value};
-ghost use Rattle.dialect.specs.State.{state_at, run, to, start, Runs, IsReaderState, HoldsWithin};
+ghost use Rattle.dialect.specs.State.{state_at, read_bytes, to, start, Runs, IsReaderState, HoldsWithin};
 ghost use Rattle.dialect.specs.Stage.{stage_state, starts_binary as binary_start, CutsLine, IsBlockOf, IsUnreadOf, EndsNothing};
 
 use crate::line::{MOST_LINE_BYTES, Opening};
@@ -170,7 +170,7 @@ impl Stage {
     pub fn extend(&mut self, piece: &[u8]) -> Result<(), AllocError>
         requires state { IsReaderState (stage_state self.old) }
         requires goes_on { EndsNothing self.old.part self.old.held.items piece.now }
-        ensures ok { OnOk result (run (stage_state self.old) piece.now ≡ to [] (stage_state self.new)) }
+        ensures ok { OnOk result (read_bytes (stage_state self.old) piece.now ≡ to [] (stage_state self.new)) }
         ensures state { IsReaderState (stage_state self.new) }
         ensures err { OnErr result (stage_state self.new ≡ stage_state self.old) }
     {

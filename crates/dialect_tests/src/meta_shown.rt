@@ -97,7 +97,7 @@ fn are_shown(alloc: Global, reply: &Reply, rows: &[Row]) -> Result<bool, AllocEr
 fn hit(alloc: Global) -> Result<Reply, AllocError> {
     let mut found = Vec::new(alloc);
     found.push(Found {
-        key: Key::new(vec![in alloc; b'k']?),
+        key: Key::from_slice(alloc, &[b'k'])?,
         flags: 7,
         block: Block::from_slice(alloc, b"hello")?,
         unique: Some(9),

@@ -8,7 +8,7 @@ use std::test::Fail;
 fn one_found(alloc: Global) -> Result<Values, AllocError> {
     let mut found = Vec::new(alloc);
     found.push(Found {
-        key: Key::new(vec![in alloc; b'k']?),
+        key: Key::from_slice(alloc, &[b'k'])?,
         flags: 7,
         block: Block::from_slice(alloc, b"hello")?,
         unique: None,

@@ -43,9 +43,8 @@ use Rattle.exec_lines.specs.contracts.body.Body as body
 use Rattle.exec_lines.specs.contracts.state.State as executor
 use Rattle.exec_lines.specs.contracts.record.Saved as saved
 use Rattle.exec_lines.specs.contracts.record.ExecutorRecord as kept
-use Rattle.worlds.specs.contracts.executor_slot.ExecutorSlot as executor_slot
 use Rattle.hosts.specs.contracts.executor_host.ExecutorHost as host
-use Rattle.worlds.proofs.verifier_slot.VerifierSlot.TheSendSync as verifier
+use Rattle.verifier.proofs.state.State.TheSendSync as verifier
 use Rattle.proxies.proofs.proxy.Proxy.TheSendSync as proxy
 use Rattle.ensemble.proofs.noted.Noted.TheSendSync as noted
 use Rattle.ensemble.proofs.progress.Progress.TheSendSync as progress
@@ -185,14 +184,11 @@ saved_sync = search (saved_chain_sync, shares, parts, sendable) depth 60 fits 20
 kept_send : IsSend kept.the_row
 kept_send = search (saved_send, saved_sync, parts, sendable) depth 60 fits 20000
 
-executor_slot_send : IsSend executor_slot.the_row
-executor_slot_send = first_of (search (executor_send, kept_send, parts, sendable) depth 60 fits 20000, search (slot.the_send, executor_send, kept_send, parts, sendable) depth 60 fits 20000)
-
 pub host_send : IsSend host.the_row
-host_send = first_of (search (executor_slot_send, body_send, letter.the_send, parts, sendable) depth 60 fits 20000, search (executor_slot_send, body_send, parts, sendable) depth 60 fits 20000)
+host_send = first_of (search (executor_send, kept_send, body_send, letter.the_send, parts, sendable) depth 60 fits 20000, search (slot.the_send, executor_send, kept_send, body_send, letter.the_send, parts, sendable) depth 60 fits 20000)
 
 nodes_send : IsSend nodes.the_row
-nodes_send = search (host_send, body_send, letter.the_send, verifier.the_send, proxy.the_send, deque.the_send, parts, sendable) depth 60 fits 20000
+nodes_send = search (host_send, body_send, letter.the_send, slot.the_send, verifier.the_send, proxy.the_send, deque.the_send, parts, sendable) depth 60 fits 20000
 
 pub process_send : IsSend process.the_row
 process_send = search (kept_send, proxy.the_send, parts, sendable) depth 60 fits 20000

@@ -61,7 +61,7 @@ impl Ensemble {
     ghost use Rattle.verifier.specs.declared.input.Input.TheVariants.{Suspect};
     ghost use Rattle.proto.specs.declared.command.Command.{Command};
     ghost use Rattle.ensemble.specs.Nodes.{IsFree, VerifierMoves, VerifierGets, size_of};
-    ghost use Rattle.ensemble.specs.Shown.{is_free_at, is_up_at, latest_epoch, is_quiet};
+    ghost use Rattle.ensemble.specs.Shown.{is_free_at, is_up_at, latest_epoch};
     ghost use Rattle.events.specs.declared.event.Replica.TheVariants as replica;
     ghost use Rattle.ensemble.specs.Calls.{RefusedNothing, IsReopened, IsReopenedAndPosts, AllCollected};
     ghost use Rattle.ensemble.specs.Served.{IsUnderWay, letters_again, VerifierPosts};
@@ -263,14 +263,6 @@ impl Ensemble {
         ensures { result ≡ latest_epoch self.now.nodes.executors }
     {
         self.nodes.epoch()
-    }
-
-    /// Whether nothing is to be done at once: no letter is under way, no executor has a job, and no order is held
-    /// that an executor could obey now.
-    pub fn is_idle(&self) -> bool
-        ensures { result ≡ is_quiet self.now.nodes }
-    {
-        self.nodes.is_quiet()
     }
 
     /// How often something was not done for want of memory, or since a bound was reached: letters or an order were

@@ -25,14 +25,15 @@ impl Model for Nodes {
     ghost use Rattle.std.specs.Prelude.{◌<◌};
     ghost use Rattle.proxies.specs.contracts.proxy.Proxy as proxy;
     ghost use Rattle.hosts.specs.contracts.executor_host.ExecutorHost as host;
-    ghost use Rattle.worlds.specs.contracts.verifier_slot.VerifierSlot as verifier;
+    ghost use Rattle.verifier.specs.contracts.state.State as verifier;
+    ghost use Rattle.worlds.specs.UpSlots.{verifier_slot_code};
     ghost use Rattle.decrees.specs.contracts.node.Letter as letter;
     ghost use Rattle.exec_lines.specs.contracts.body.Body as body;
     ghost use Rattle.ensemble.specs.Nodes.{NodesView, AreNumbered, nodes_code};
 
     ghost Value = { NodesView };
 
-    ghost coded = { nodes_code proxy.the_row.coded host.the_row.coded verifier.the_row.coded (letter.the_row body.the_row).coded };
+    ghost coded = { nodes_code proxy.the_row.coded host.the_row.coded (verifier_slot_code verifier.the_row.coded) (letter.the_row body.the_row).coded };
 
     ghost view = { λ n. record { u = n.u; proxies = n.proxies.items; executors = n.executors.items; verifiers = n.verifiers.items; mail = n.mail.items } };
 

@@ -7,8 +7,8 @@ ghost use Rattle.events.specs.declared.config.TheConstants.{MOST_CLIENTS};
 use proto::Fault;
 use std::marker::Model;
 
-/// How many clients there are at most.
-pub const MOST_CLIENTS: u16 = 64;
+/// How many clients there are at most: a letter has a client's number in 16 bits, and 0 is none's.
+pub const MOST_CLIENTS: u16 = 65535;
 
 /// How large a world is: of its `2u + 1` executors, and of as many verifiers, `u` may fail; and how
 /// many clients there are.

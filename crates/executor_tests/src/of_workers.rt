@@ -422,7 +422,7 @@ fn written_pages(alloc: Global) -> Result<Vec<Page>, AllocError> {
 fn keep_first(alloc: Global, sessions: &mut Sessions, client: u16) -> Result<(), AllocError>
     requires { 1 ≤ client }
 {
-    let key = Key::new(vec![in alloc; b'k']?);
+    let key = Key::from_slice(alloc, &[b'k'])?;
     let request = Request {
         client,
         number: 1,

@@ -18,9 +18,9 @@ pub enum Does {
 /// The key of these bytes, or else `k`.
 fn key(alloc: Global, bytes: &[u8]) -> Result<Key, AllocError> {
     if is_key_text(bytes) {
-        return Ok(Key::new(Vec::from_slice(alloc, bytes)?));
+        return Ok(Key::from_slice(alloc, bytes)?);
     }
-    Ok(Key::new(vec![in alloc; b'k']?))
+    Ok(Key::from_slice(alloc, &[b'k'])?)
 }
 
 pub fn step(alloc: Global, does: Does, bytes: &[u8]) -> Result<Step, AllocError> {

@@ -6,7 +6,7 @@ use Rattle.proto.specs.declared.command.Command.TheVariants as command
 use Rattle.proto.specs.declared.command.StoreVerb.TheVariants as verb
 use Rattle.proto.specs.declared.command.Update.{Update}
 use Rattle.proto.specs.declared.command.Update.TheVariants as update
-use Rattle.dialect.specs.State.{State, start, step, run}
+use Rattle.dialect.specs.State.{State, start, read_byte, read_bytes}
 use Rattle.dialect.specs.declared.turn.Notice.TheVariants as notice
 use Rattle.dialect.specs.declared.turn.Show.{Show}
 use Rattle.dialect.specs.declared.turn.Turn.{Turn}
@@ -55,21 +55,21 @@ front_fits : (turns more : List Turn) → AreFitTurns (turns ++ more) → AreFit
 front_fits [] more fit = (tt, fit)
 front_fits (t ∷ turns) more fit = let f = front_fits turns more fit.1 in ((fit.0, f.0), f.1)
 
-limited_fit : (full : Bool) (s : State) (bytes : List ℕ) → AreFitTurns (run s (without_marks bytes)).turns → AreFitTurns (limited_turns full s bytes)
-unfolding limited_turns run
+limited_fit : (full : Bool) (s : State) (bytes : List ℕ) → AreFitTurns (read_bytes s (without_marks bytes)).turns → AreFitTurns (limited_turns full s bytes)
+unfolding limited_turns read_bytes
 limited_fit full s [] fit = tt
-limited_fit full s (b ∷ bytes) fit = by (nat_lt b 256) (λ later. limited_fit full (step s b).state bytes later) (λ later. limited_fit (b == 257) s bytes later) fit
+limited_fit full s (b ∷ bytes) fit = by (nat_lt b 256) (λ later. limited_fit full (read_byte s b).state bytes later) (λ later. limited_fit (b == 257) s bytes later) fit
   where
-    by : (is : Bool) → (AreFitTurns (run (step s b).state (without_marks bytes)).turns → AreFitTurns (limited_turns full (step s b).state bytes)) → (AreFitTurns (run s (without_marks bytes)).turns → AreFitTurns (limited_turns (b == 257) s bytes))
-        → AreFitTurns (run s (if is then b ∷ without_marks bytes else without_marks bytes)).turns → AreFitTurns (if is then map (turn_when full) (step s b).turns ++ limited_turns full (step s b).state bytes else limited_turns (b == 257) s bytes)
+    by : (is : Bool) → (AreFitTurns (read_bytes (read_byte s b).state (without_marks bytes)).turns → AreFitTurns (limited_turns full (read_byte s b).state bytes)) → (AreFitTurns (read_bytes s (without_marks bytes)).turns → AreFitTurns (limited_turns (b == 257) s bytes))
+        → AreFitTurns (read_bytes s (if is then b ∷ without_marks bytes else without_marks bytes)).turns → AreFitTurns (if is then map (turn_when full) (read_byte s b).turns ++ limited_turns full (read_byte s b).state bytes else limited_turns (b == 257) s bytes)
     by true read marked fit =
-        let f = front_fits (step s b).turns (run (step s b).state (without_marks bytes)).turns fit in
-        both_fit (map (turn_when full) (step s b).turns) (limited_turns full (step s b).state bytes) (all_fit full (step s b).turns f.0) (read f.1)
+        let f = front_fits (read_byte s b).turns (read_bytes (read_byte s b).state (without_marks bytes)).turns fit in
+        both_fit (map (turn_when full) (read_byte s b).turns) (limited_turns full (read_byte s b).state bytes) (all_fit full (read_byte s b).turns f.0) (read f.1)
     by false read marked fit = marked fit
 
 pub limited_has_text : (bytes : List ℕ) (c : Command) (s : Show) → Contains (limited_turns false start bytes) (Ask c s) → HasText c (is_left_out s)
 limited_has_text bytes c s there =
-    one_has_text (limited_turns false start bytes) c s (limited_fit false start bytes (spelled_fit (without_marks bytes) (run start (without_marks bytes)).turns (run_is_spelled (without_marks bytes)))) there
+    one_has_text (limited_turns false start bytes) c s (limited_fit false start bytes (spelled_fit (without_marks bytes) (read_bytes start (without_marks bytes)).turns (run_is_spelled (without_marks bytes)))) there
 
 -- ---- what is asked while no more may be stored
 

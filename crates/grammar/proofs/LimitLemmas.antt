@@ -30,7 +30,7 @@ use Rattle.dialect.specs.Meta.{token_behind, first_fault, checked, exptime_in, f
 use Rattle.dialect.specs.declared.meta.Meta.{Meta}
 use Rattle.dialect.specs.declared.meta.Meta.TheVariants as meta
 use Rattle.dialect.specs.Meaning.{meaning, meaning_of_words, meaning_of_line, unknown, without_return, block_turn}
-use Rattle.dialect.specs.Reading.{head, read_text, read_command, fits, piece_turns, read_turns, keys_in}
+use Rattle.dialect.specs.Reading.{head, read_text, read_command, keys_fit, piece_turns, read_turns, keys_in}
 use Rattle.dialect.specs.Grammar.{Spells, part_of_line, part_of_block, line, with_block, unread, closing, too_long, binary}
 use Rattle.dialect.specs.declared.turn.Notice.{Notice}
 use Rattle.dialect.specs.declared.turn.Notice.TheVariants as notice
@@ -293,8 +293,8 @@ one_key r k fit e = record {
   short = let small = key_short k e in let long = head_short r fit in let whole = text_one r k in omega (arith, small, long, whole);
 }
 
-one_more_key : (r : ReadVerb) (ks : List (List ℕ)) (k : List ℕ) → AreFitKeys r ks → is_key k ≡ true → fits r (ks ++ k ∷ []) ≡ true → AreFitKeys r (ks ++ k ∷ [])
-unfolding fits
+one_more_key : (r : ReadVerb) (ks : List (List ℕ)) (k : List ℕ) → AreFitKeys r ks → is_key k ≡ true → keys_fit r (ks ++ k ∷ []) ≡ true → AreFitKeys r (ks ++ k ∷ [])
+unfolding keys_fit
 one_more_key r ks k fit e f =
     let parts = both_true (nat_le (length (ks ++ k ∷ [])) MOST_KEYS) (nat_le (length (read_text r (ks ++ k ∷ []))) profile.MOST_LINE_BYTES) f in
     let more = length-append ks (k ∷ []) in
@@ -318,9 +318,9 @@ pieces_fit : (r : ReadVerb) (ks more : List (List ℕ)) → IsFitVerb r → AreF
 pieces_fit r ks [] verb fit e = ((read_has_text r ks verb fit, read_removable r ks), tt)
 pieces_fit r ks (k ∷ more) verb fit e =
     let parts = both_true (is_key k) (list_all is_key more) e in
-    by (fits r (ks ++ k ∷ [])) (λ f. pieces_fit r (ks ++ k ∷ []) more verb (one_more_key r ks k fit parts.0 f) parts.1) (pieces_fit r (k ∷ []) more verb (one_key r k verb parts.0) parts.1) refl
+    by (keys_fit r (ks ++ k ∷ [])) (λ f. pieces_fit r (ks ++ k ∷ []) more verb (one_more_key r ks k fit parts.0 f) parts.1) (pieces_fit r (k ∷ []) more verb (one_key r k verb parts.0) parts.1) refl
   where
-    by : (b : Bool) → (fits r (ks ++ k ∷ []) ≡ true → AreFitTurns (piece_turns r (ks ++ k ∷ []) more)) → AreFitTurns (piece_turns r (k ∷ []) more) → fits r (ks ++ k ∷ []) ≡ b
+    by : (b : Bool) → (keys_fit r (ks ++ k ∷ []) ≡ true → AreFitTurns (piece_turns r (ks ++ k ∷ []) more)) → AreFitTurns (piece_turns r (k ∷ []) more) → keys_fit r (ks ++ k ∷ []) ≡ b
         → AreFitTurns (if b then piece_turns r (ks ++ k ∷ []) more else Ask (read_command r ks) show.Items ∷ piece_turns r (k ∷ []) more)
     by true go begin f = go f
     by false go begin f = ((read_has_text r ks verb fit, read_removable r ks), begin)

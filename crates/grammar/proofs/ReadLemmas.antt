@@ -9,7 +9,7 @@ use Rattle.proto.specs.Reader.{Reading, ReadsTurns, kept_of}
 use Rattle.proto.proofs.SpellsLemmas as profile
 use Rattle.dialect.specs.Laws.{commands}
 use Rattle.dialect.specs.declared.turn.Turn.{Turn as MemcachedTurn}
-use Rattle.dialect.specs.State.{State, start, run}
+use Rattle.dialect.specs.State.{State, start, read_bytes}
 use Rattle.dialect.proofs.SpellsLemmas as memcached
 use Rattle.grammar.specs.declared.reader.Dialect.{Dialect}
 use Rattle.grammar.specs.declared.reader.Dialect.TheVariants as dialect
@@ -22,7 +22,7 @@ use Rattle.grammar.specs.Limit.{turn_when, Limited as LimitedState, without_mark
 use Rattle.grammar.specs.Asks.{SpellsIn, SpellsMemcached, commands_in}
 use Rattle.grammar.specs.Reads.{new_reader, HasReadIn, HasReadLimited, GoesOnReading, ReaderReads, ReadsOnProfile, ReadsOnMemcached, ReadsOnLimited}
 use Rattle.grammar.proofs.TurnLemmas.{some_turns, both_turns, turns_ask}
-use Rattle.grammar.proofs.LimitedLemmas.{room_turns, turns_both, state_both, bytes_read, bytes_lead, mark_turns, mark_state}
+use Rattle.grammar.proofs.LimitedLemmas.{room_turns, turns_both, state_both, read_bytes, bytes_lead, mark_turns, mark_state}
 
 -- ---- turns that are spelled
 
@@ -31,20 +31,20 @@ some_spelled dialect.Profile bytes =
     let s = profile.spells_some (suc (length bytes)) bytes (omega arith) in
     (map profile_turn s.0, record { spelled = s.0; rest = s.1; spells = s.2; are = refl })
 some_spelled dialect.Memcached bytes =
-    let s = some_turns (run start bytes).turns in
-    (s.0, record { spelled = (run start bytes).turns; spells = memcached.run_is_spelled bytes; are = s.1 })
+    let s = some_turns (read_bytes start bytes).turns in
+    (s.0, record { spelled = (read_bytes start bytes).turns; spells = memcached.run_is_spelled bytes; are = s.1 })
 some_spelled dialect.Limited bytes = some_turns (limited_turns false start bytes)
 
 -- with room throughout they are those of the bytes without the marks
 pub room_spelled : (bytes : List ℕ) (turns : List Turn) → HasRoomThroughout bytes → SpellsIn dialect.Limited bytes turns ↔ SpellsIn dialect.Memcached (without_marks bytes) turns
 room_spelled bytes turns room = (
   λ (s : SpellsIn dialect.Limited bytes turns). record {
-    spelled = (run start (without_marks bytes)).turns;
+    spelled = (read_bytes start (without_marks bytes)).turns;
     spells = memcached.run_is_spelled (without_marks bytes);
     are = subst (λ (read : List MemcachedTurn). AreTurnsOf read turns) (room_turns start bytes room) s;
   },
   λ (s : SpellsMemcached (without_marks bytes) turns).
-      subst (λ (read : List MemcachedTurn). AreTurnsOf read turns) (memcached.spells_one (without_marks bytes) s.spelled (run start (without_marks bytes)).turns s.spells (memcached.run_is_spelled (without_marks bytes)) ∙ sym (room_turns start bytes room)) s.are,
+      subst (λ (read : List MemcachedTurn). AreTurnsOf read turns) (memcached.spells_one (without_marks bytes) s.spelled (read_bytes start (without_marks bytes)).turns s.spells (memcached.run_is_spelled (without_marks bytes)) ∙ sym (room_turns start bytes room)) s.are,
 )
 
 -- turns of the profile are one list
@@ -74,11 +74,11 @@ more_spelled dialect.Profile bytes more turns s =
       },
     )
 more_spelled dialect.Memcached bytes more turns s =
-    let added = memcached.spells_longer bytes more s.spelled (run start (bytes ++ more)).turns s.spells (memcached.run_is_spelled (bytes ++ more)) in
+    let added = memcached.spells_longer bytes more s.spelled (read_bytes start (bytes ++ more)).turns s.spells (memcached.run_is_spelled (bytes ++ more)) in
     let t = some_turns added.0 in (
       t.0,
       record {
-        spelled = (run start (bytes ++ more)).turns;
+        spelled = (read_bytes start (bytes ++ more)).turns;
         spells = memcached.run_is_spelled (bytes ++ more);
         are = subst (λ (read : List MemcachedTurn). AreTurnsOf read (turns ++ t.0)) (sym added.1) (both_turns s.spelled added.0 turns t.0 s.are t.1);
       },
@@ -145,7 +145,7 @@ read_more dialect.Limited old new fed comes turns more h g = record { is = r.is 
     given : limited_turns (limited_state false start fed).full (limited_state false start fed).state comes ≡ map (turn_when r.full) r.read
     given = ap (limited_turns (limited_state false start fed).full (limited_state false start fed).state) r.marked_so
         ∙ (mark_turns (limited_state false start fed).full r.full (limited_state false start fed).state r.piece
-        ∙ (bytes_read r.full (limited_state false start fed).state r.piece r.bytes
+        ∙ (read_bytes r.full (limited_state false start fed).state r.piece r.bytes
         ∙ ap (map (turn_when r.full)) (sym r.reads.turns)))
 
     all : limited_turns false start (fed ++ comes) ≡ limited_turns false start fed ++ map (turn_when r.full) r.read

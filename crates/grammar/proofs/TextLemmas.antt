@@ -28,7 +28,7 @@ use Rattle.proto.specs.declared.command.Update.TheVariants as update
 use Rattle.proto.specs.declared.turn.Turn.{Turn}
 use Rattle.proto.specs.declared.turn.Notice.TheVariants.{BadDelta}
 use Rattle.proto.specs.declared.turn.Turn.TheVariants.{Ask, Say}
-use Rattle.dialect.specs.Reading.{key_text, head, read_text, read_command}
+use Rattle.dialect.specs.Reading.{spaced_key, head, read_text, read_command}
 use Rattle.dialect.specs.declared.line.ReadVerb.{ReadVerb}
 use Rattle.dialect.specs.declared.line.ReadVerb.TheVariants as reading
 use Rattle.memcached_spec.specs.Asked.{HasText}
@@ -85,10 +85,10 @@ others_are_words (reading.Gats exptime) ks fit h = all_true (is_key (signed_deci
 
 text_is : (r : ReadVerb) (ks : List (List ℕ)) → read_text r ks ≡ line_text (name_word r) (other_words r ks) ++ codes "\r\n"
 unfolding read_text name_word other_words
-text_is reading.Get ks = sym (append_assoc (codes "get") (flat_map key_text ks) (codes "\r\n"))
-text_is reading.Gets ks = sym (append_assoc (codes "gets") (flat_map key_text ks) (codes "\r\n"))
-text_is (reading.Gat exptime) ks = sym (append_assoc (codes "gat " ++ signed_decimal exptime) (flat_map key_text ks) (codes "\r\n"))
-text_is (reading.Gats exptime) ks = sym (append_assoc (codes "gats " ++ signed_decimal exptime) (flat_map key_text ks) (codes "\r\n"))
+text_is reading.Get ks = sym (append_assoc (codes "get") (flat_map spaced_key ks) (codes "\r\n"))
+text_is reading.Gets ks = sym (append_assoc (codes "gets") (flat_map spaced_key ks) (codes "\r\n"))
+text_is (reading.Gat exptime) ks = sym (append_assoc (codes "gat " ++ signed_decimal exptime) (flat_map spaced_key ks) (codes "\r\n"))
+text_is (reading.Gats exptime) ks = sym (append_assoc (codes "gats " ++ signed_decimal exptime) (flat_map spaced_key ks) (codes "\r\n"))
 
 keys_are : (r : ReadVerb) (ks : List (List ℕ)) → AreFitKeys r ks → keys_of ks ≡ Some ks
 keys_are r ks fit = chosen _ (all_true _ _ (all_true _ _ (one (length ks) fit.some) (few (length ks) fit.few)) fit.valid)
@@ -143,13 +143,13 @@ key_read k e = ap (λ (c : Bool). if c then Some k else None) e
 
 -- the length of some words, each behind a space
 words_long : List (List ℕ) → ℕ
-words_long ws = length (flat_map key_text ws)
+words_long ws = length (flat_map spaced_key ws)
 
 one_longer : (w : List ℕ) (ws : List (List ℕ)) (n : ℕ) → is_key w ≡ true → words_long ws ≤ n → words_long (w ∷ ws) ≤ n + 251
 unfolding words_long
 one_longer w ws n e l =
     let short = key_short w e in
-    let whole = length-append (key_text w) (flat_map key_text ws) in
+    let whole = length-append (spaced_key w) (flat_map spaced_key ws) in
     omega (arith, short, l, whole)
 
 last_long : (quiet : Bool) → words_long (last_word quiet) ≤ 8
@@ -159,7 +159,7 @@ last_long false = omega arith
 
 line_short : (w : List ℕ) (ws : List (List ℕ)) → length w ≤ 8 → words_long ws ≤ 1263 → length (line_text w ws) + 2 ≤ MOST_LINE_BYTES
 unfolding words_long
-line_short w ws l m = let whole = length-append w (flat_map key_text ws) in omega (arith, whole, l, m)
+line_short w ws l m = let whole = length-append w (flat_map spaced_key ws) in omega (arith, whole, l, m)
 
 delete_text : (key : List ℕ) (quiet : Bool) → is_key key ≡ true → HasText (command.Update (update.Delete key)) quiet
 delete_text key quiet e =

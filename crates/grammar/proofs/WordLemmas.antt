@@ -11,7 +11,7 @@ use Rattle.proto.specs.Line.{is_space, is_empty, words, ends_in_return, line_of_
 use Rattle.proto.specs.Grammar.{next_turn, first_line, is_newline, turn_of_line}
 use Rattle.proto.specs.declared.key.TheConstants.{MOST_KEY_BYTES}
 use Rattle.proto.specs.declared.line.TheConstants.{MOST_LINE_BYTES}
-use Rattle.dialect.specs.Reading.{key_text}
+use Rattle.dialect.specs.Reading.{spaced_key}
 
 pub both_true : (x y : Bool) → (x && y) ≡ true → (x ≡ true) × (y ≡ true)
 both_true true y e = (refl, e)
@@ -54,7 +54,7 @@ no_newlines (b ∷ w) e =
 
 -- the words, with one space between them
 abbrev pub line_text : List ℕ → List (List ℕ) → List ℕ
-line_text w ws = w ++ flat_map key_text ws
+line_text w ws = w ++ flat_map spaced_key ws
 
 pub line_no_newline : (w : List ℕ) (ws : List (List ℕ)) → is_key w ≡ true → list_all is_key ws ≡ true → list_any is_newline (line_text w ws) ≡ false
 line_no_newline w [] e h = no_append w [] (no_newlines w (key_bytes w e)) refl

@@ -11,7 +11,7 @@ use Rattle.dialect.specs.declared.turn.Show.{Show}
 use Rattle.dialect.specs.declared.turn.Show.TheVariants as show
 use Rattle.dialect.specs.declared.turn.Turn.{Turn}
 use Rattle.dialect.specs.declared.turn.Turn.TheVariants.{Ask, Say, Close}
-use Rattle.dialect.specs.State.{State, step}
+use Rattle.dialect.specs.State.{State, read_byte}
 use Rattle.grammar.specs.Turns.{is_left_out}
 
 -- ---- a line while the items have more bytes than the limit
@@ -105,7 +105,7 @@ HasRoomThroughout (b ∷ bytes) = (¬ (b ≡ 257)) × HasRoomThroughout bytes
 unfoldable pub limited_turns : Bool → State → List ℕ → List Turn
 limited_turns full s [] = []
 limited_turns full s (b ∷ bytes) =
-    if nat_lt b 256 then map (turn_when full) (step s b).turns ++ limited_turns full (step s b).state bytes
+    if nat_lt b 256 then map (turn_when full) (read_byte s b).turns ++ limited_turns full (read_byte s b).state bytes
     else limited_turns (b == 257) s bytes
 
 -- the state after them, and what the last mark says
@@ -115,4 +115,4 @@ pub record Limited : Type 0 where
 
 unfoldable pub limited_state : Bool → State → List ℕ → Limited
 limited_state full s [] = record { full = full; state = s }
-limited_state full s (b ∷ bytes) = if nat_lt b 256 then limited_state full (step s b).state bytes else limited_state (b == 257) s bytes
+limited_state full s (b ∷ bytes) = if nat_lt b 256 then limited_state full (read_byte s b).state bytes else limited_state (b == 257) s bytes

@@ -41,7 +41,7 @@ connection_numbers f =
     ∷ (codes "curr_connections", f.connections.open)
     ∷ (codes "total_connections", f.connections.accepted)
     ∷ (codes "rejected_connections", f.connections.refused)
-    ∷ (codes "bytes_read", f.connections.bytes_read)
+    ∷ (codes "read_bytes", f.connections.bytes_read)
     ∷ (codes "bytes_written", f.connections.bytes_written)
     ∷ []
 
@@ -49,11 +49,11 @@ abbrev pub server_lines : Figures → List ℕ
 server_lines f = stat_line (codes "version") (codes "1.6.18-eve-1") ++ (number_lines (process_numbers f) ++ number_lines (connection_numbers f))
 
 -- the storage commands of this kind that were answered
-unfoldable pub stored : Commands → Kind → ℕ
-stored cs k = sum_of (sum_of (sum_of (kind_count cs k outcome.Stored) (kind_count cs k outcome.NotStored)) (sum_of (kind_count cs k outcome.Exists) (kind_count cs k outcome.NotFound))) (kind_count cs k outcome.TooLarge)
+unfoldable pub storage_count : Commands → Kind → ℕ
+storage_count cs k = sum_of (sum_of (sum_of (kind_count cs k outcome.Stored) (kind_count cs k outcome.NotStored)) (sum_of (kind_count cs k outcome.Exists) (kind_count cs k outcome.NotFound))) (kind_count cs k outcome.TooLarge)
 
 unfoldable pub all_stored : Commands → ℕ
-all_stored cs = sum_of (sum_of (sum_of (stored cs kind.Set) (stored cs kind.Add)) (sum_of (stored cs kind.Append) (stored cs kind.Prepend))) (sum_of (stored cs kind.Replace) (stored cs kind.Cas))
+all_stored cs = sum_of (sum_of (sum_of (storage_count cs kind.Set) (storage_count cs kind.Add)) (sum_of (storage_count cs kind.Append) (storage_count cs kind.Prepend))) (sum_of (storage_count cs kind.Replace) (storage_count cs kind.Cas))
 
 unfoldable pub get_numbers : Figures → List (List ℕ × ℕ)
 get_numbers f =

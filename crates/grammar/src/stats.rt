@@ -110,9 +110,9 @@ fn put_connections(figures: &Figures, out: &mut Vec<u8>) -> Result<(), AllocErro
 }
 
 /// How many storage commands of this kind were answered.
-#[tactic(auto, unfolding(crate::specs::Stats::stored))]
-fn stored(commands: &Commands, kind: Kind) -> u64
-    ensures { result ≡ spec.stored commands.now kind }
+#[tactic(auto, unfolding(crate::specs::Stats::storage_count))]
+fn storage_count(commands: &Commands, kind: Kind) -> u64
+    ensures { result ≡ spec.storage_count commands.now kind }
 {
     let stored = commands.count_of(kind, Outcome::Stored);
     let not_stored = commands.count_of(kind, Outcome::NotStored);
@@ -130,12 +130,12 @@ fn stored(commands: &Commands, kind: Kind) -> u64
 fn all_stored(commands: &Commands) -> u64
     ensures { result ≡ spec.all_stored commands.now }
 {
-    let set = plus(stored(commands, Kind::Set), stored(commands, Kind::Add));
+    let set = plus(storage_count(commands, Kind::Set), storage_count(commands, Kind::Add));
     let added = plus(
-        stored(commands, Kind::Append),
-        stored(commands, Kind::Prepend),
+        storage_count(commands, Kind::Append),
+        storage_count(commands, Kind::Prepend),
     );
-    let changed = plus(stored(commands, Kind::Replace), stored(commands, Kind::Cas));
+    let changed = plus(storage_count(commands, Kind::Replace), storage_count(commands, Kind::Cas));
     plus(plus(set, added), changed)
 }
 

@@ -24,14 +24,15 @@ pub struct ExecutorHost {
 }
 
 impl Model for ExecutorHost {
-    ghost use Rattle.worlds.specs.contracts.executor_slot.ExecutorSlot as executor_slot;
     ghost use Rattle.decrees.specs.contracts.node.Letter as letter;
     ghost use Rattle.exec_lines.specs.contracts.body.Body as body;
+    ghost use Rattle.exec_lines.specs.contracts.state.State as state;
+    ghost use Rattle.worlds.specs.UpSlots.{executor_slot_code};
     ghost use Rattle.hosts.specs.Host.{HostView, host_code};
 
     ghost Value = { HostView };
 
-    ghost coded = { host_code executor_slot.the_row.coded (letter.the_row body.the_row).coded };
+    ghost coded = { host_code (executor_slot_code state.the_row.coded) (letter.the_row body.the_row).coded };
 
     ghost view = { λ h. record { slot = h.slot; held = h.held.items; sent = h.sent.items } };
 }

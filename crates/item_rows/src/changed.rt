@@ -26,37 +26,6 @@ fn row_number(entry: &Entry<Key, Item>) -> u64
     row_number_of(entry.key()).cast_unsigned()
 }
 
-/// How many entries at the front are in this row.
-fn count_at_front(entries: &[Entry<Key, Item>], at: u64) -> usize
-    ensures front { result ≡ at_front at entries.now }
-    ensures fits { result ≤ length entries.now }
-{
-    match entries {
-        [] => 0,
-        [first, rest @ ..] => {
-            if row_number(first) == at {
-                1 + count_at_front(rest, at)
-            } else {
-                0
-            }
-        }
-    }
-}
-
-/// The entries at the front that are in this row.
-fn front_of<'a>(entries: &'a [Entry<Key, Item>], at: u64) -> &'a [Entry<Key, Item>]
-    ensures { result.now ≡ take (at_front at entries.now) entries.now }
-{
-    &entries[..count_at_front(entries, at)]
-}
-
-/// The entries behind them.
-fn after_front<'a>(entries: &'a [Entry<Key, Item>], at: u64) -> &'a [Entry<Key, Item>]
-    ensures { result.now ≡ drop (at_front at entries.now) entries.now }
-{
-    &entries[count_at_front(entries, at)..]
-}
-
 /// The row number of the first entry.
 fn first_row_number(entries: &[Entry<Key, Item>]) -> Option<u64>
     ensures { result ≡ row_number_at_front entries.now }
@@ -67,14 +36,70 @@ fn first_row_number(entries: &[Entry<Key, Item>]) -> Option<u64>
     }
 }
 
-/// The lower one of the row numbers of the first entries: `None` if there is no entry.
-fn next_row_number(old: &[Entry<Key, Item>], new: &[Entry<Key, Item>]) -> Option<u64>
-    ensures { result ≡ lower_row_number (row_number_at_front old.now) (row_number_at_front new.now) }
+/// The lower one of two row numbers: `None` if there is none.
+fn lower(one: Option<u64>, other: Option<u64>) -> Option<u64>
+    ensures { result ≡ lower_row_number one other }
 {
-    match (first_row_number(old), first_row_number(new)) {
+    match (one, other) {
         (None, number) => number,
         (Some(number), None) => Some(number),
         (Some(number), Some(other)) => Some(if other < number { other } else { number }),
+    }
+}
+
+/// How many entries at the front are in this row, and the row number of the one behind them. `first` is that of the first
+/// entry: each row number is computed once, since it takes a hash.
+fn count_at_front(
+    entries: &[Entry<Key, Item>],
+    first: Option<u64>,
+    at: u64,
+) -> (usize, Option<u64>)
+    requires { first ≡ row_number_at_front entries.now }
+    ensures front { result.0 ≡ at_front at entries.now }
+    ensures fits { result.0 ≤ length entries.now }
+    ensures behind { result.1 ≡ row_number_at_front (drop result.0 entries.now) }
+{
+    match entries {
+        [_, rest @ ..] if first == Some(at) => {
+            let (count, behind) = count_at_front(rest, first_row_number(rest), at);
+            (1 + count, behind)
+        }
+        _ => (0, first),
+    }
+}
+
+/// Entries that are not compared yet.
+#[derive(Clone, Copy)]
+struct Rest<'a> {
+    entries: &'a [Entry<Key, Item>],
+    /// The row number of the first one.
+    first: Option<u64>,
+}
+
+impl<'a> Rest<'a> {
+    fn of(entries: &'a [Entry<Key, Item>]) -> Rest<'a>
+        ensures entries { result.entries.now ≡ entries.now }
+        ensures first { result.first ≡ row_number_at_front entries.now }
+    {
+        Rest {
+            entries,
+            first: first_row_number(entries),
+        }
+    }
+
+    /// The entries at the front that are in this row, and what is behind them.
+    fn split_row(self, at: u64) -> (&'a [Entry<Key, Item>], Rest<'a>)
+        requires { self.first ≡ row_number_at_front self.entries.now }
+        ensures front { result.0.now ≡ take (at_front at self.entries.now) self.entries.now }
+        ensures rest { result.1.entries.now ≡ drop (at_front at self.entries.now) self.entries.now }
+        ensures first { result.1.first ≡ row_number_at_front result.1.entries.now }
+    {
+        let (count, first) = count_at_front(self.entries, self.first, at);
+        let rest = Rest {
+            entries: &self.entries[count..],
+            first,
+        };
+        (&self.entries[..count], rest)
     }
 }
 
@@ -115,13 +140,13 @@ fn compare(
     ensures { IfOk result (λ changes. AreRising row_number_of_key old.now → AreRising row_number_of_key new.now → AreNoted old.now new.now changes.items) }
 {
     let mut changes = Vec::new(alloc);
-    let (mut old_rest, mut new_rest) = (old, new);
-    while let Some(at) = next_row_number(old_rest, new_rest) {
-        let before = front_of(old_rest, at);
-        let after = front_of(new_rest, at);
+    let (mut old_rest, mut new_rest) = (Rest::of(old), Rest::of(new));
+    while let Some(at) = lower(old_rest.first, new_rest.first) {
+        let (before, old_behind) = old_rest.split_row(at);
+        let (after, new_behind) = new_rest.split_row(at);
         note(alloc, at, before, after, &mut changes)?;
-        old_rest = after_front(old_rest, at);
-        new_rest = after_front(new_rest, at);
+        old_rest = old_behind;
+        new_rest = new_behind;
     }
     Ok(changes)
 }

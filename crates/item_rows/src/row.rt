@@ -72,7 +72,7 @@ fn key_in(alloc: Global, row: &Row) -> Result<Key, Fault>
     ensures only { IfErr result (λ fault. (fault ≡ Fault.NoMemory) ⊎ (fault ≡ Fault.BadRecord)) }
 {
     match row.get(2) {
-        ValueRef::Blob(bytes) if is_key_text(bytes) => Ok(Key::new(Vec::from_slice(alloc, bytes)?)),
+        ValueRef::Blob(bytes) if is_key_text(bytes) => Ok(Key::from_slice(alloc, bytes)?),
         _ => Err(Fault::BadRecord),
     }
 }

@@ -1,15 +1,13 @@
 //! Which letters are bulk, and how long letters may be.
 
-ghost use Rattle.std.specs.Prelude.{◌≡◌, ◌-◌, ◌^◌, length, min};
+ghost use Rattle.std.specs.Prelude.{◌≡◌};
 ghost use Rattle.letters.specs.Letter.{letter_text};
 ghost use Rattle.letters.specs.Size.{is_bulk_letter, is_long_letter};
 
 use crate::letter::write;
-use base::Piece;
 use decrees::Letter;
 use exec_lines::Body;
-use std::convert::Infallible;
-use wire::Sink;
+use wire::Counter;
 
 /// The most bytes of a letter that is not bulk.
 pub const MOST_QUICK_BYTES: usize = 64 * 1024;
@@ -18,40 +16,13 @@ pub const MOST_QUICK_BYTES: usize = 64 * 1024;
 /// a reply with as many items.
 pub const MOST_BULK_BYTES: usize = 68 * 1024 * 1024;
 
-/// A sink that counts the bytes, up to `usize::MAX`, and keeps none of them.
-struct Counter {
-    count: usize,
-}
-
-impl Drop for Counter {
-    fn drop(self) {
-        let Counter { count: _ } = self;
-    }
-}
-
-impl Sink for Counter {
-    type Refusal = Infallible;
-
-    ghost holds = { λ counter bytes. counter.count ≡ min (length bytes) (2 ^ 64 - 1) };
-
-    fn put(&mut self, bytes: &[u8]) -> Result<(), Infallible> {
-        self.count = self.count.saturating_add(bytes.len());
-        Ok(())
-    }
-
-    fn share(&mut self, piece: &Piece) -> Result<(), Infallible> {
-        self.count = self.count.saturating_add(piece.as_slice().len());
-        Ok(())
-    }
-}
-
 /// Whether the text of the letter is longer than that of a quick one may be. It takes no memory.
 fn is_long(letter: &Letter<Body>) -> bool
     ensures { result ≡ is_long_letter letter.now }
 {
-    let mut counter = Counter { count: 0 };
+    let mut counter = Counter::new();
     match write(letter, &mut counter) {
-        Ok(()) => MOST_QUICK_BYTES < counter.count,
+        Ok(()) => MOST_QUICK_BYTES < counter.count(),
         Err(never) => match never {},
     }
 }

@@ -5,6 +5,8 @@
 #[cfg(test)]
 mod entries;
 #[cfg(test)]
+mod of_ahead;
+#[cfg(test)]
 mod of_differences;
 #[cfg(test)]
 mod of_orders;

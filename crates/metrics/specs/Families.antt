@@ -49,11 +49,11 @@ abbrev pub outcomes_text : Commands → Kind → List Outcome → List ℕ
 outcomes_text commands k = flat_map (λ o. outcome_text k o (kind_count commands k o))
 
 -- the lines of a command
-unfoldable pub command_text : Commands → Kind → List ℕ
-command_text commands k = outcomes_text commands k ALL_OUTCOMES
+unfoldable pub kind_lines : Commands → Kind → List ℕ
+kind_lines commands k = outcomes_text commands k ALL_OUTCOMES
 
 abbrev pub commands_text : Commands → List Kind → List ℕ
-commands_text commands = flat_map (command_text commands)
+commands_text commands = flat_map (kind_lines commands)
 
 -- the lines of all commands
 unfoldable pub all_commands_text : Commands → List ℕ

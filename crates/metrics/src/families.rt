@@ -1,7 +1,7 @@
 //! The lines of each metric.
 
 ghost use Rattle.std.specs.Prelude.{◌≡◌, ◌++◌, ◌+◌, ◌≤◌, OnOk, IfOk, flat_map, length, take};
-ghost use Rattle.metrics.specs.Families.{metric_head, whole_sample_text, outcome_text, outcomes_text, command_text, commands_text, all_commands_text, refusals_text, all_refusals_text, node_value, nodes_text, all_nodes_text, folder_value, folders_text, all_folders_text, bucket_text, buckets_text, bound_of, bounds_after, total_from, histogram_text, samples_text, family_text, metrics_text};
+ghost use Rattle.metrics.specs.Families.{metric_head, whole_sample_text, outcome_text, outcomes_text, kind_lines, commands_text, all_commands_text, refusals_text, all_refusals_text, node_value, nodes_text, all_nodes_text, folder_value, folders_text, all_folders_text, bucket_text, buckets_text, bound_of, bounds_after, total_from, histogram_text, samples_text, family_text, metrics_text};
 ghost use Rattle.figures.specs.declared.node.TheConstants.{MOST_NODES};
 ghost use Rattle.metrics.specs.declared.folder.TheConstants.{MOST_FOLDERS};
 
@@ -82,9 +82,9 @@ fn write_outcomes(
 }
 
 /// The lines of a command.
-#[tactic(auto, unfolding(crate::specs::Families::command_text))]
+#[tactic(auto, unfolding(crate::specs::Families::kind_lines))]
 fn write_command(kind: Kind, commands: &Commands, out: &mut Vec<u8>) -> Result<(), AllocError>
-    ensures { OnOk result (out.new.items ≡ out.old.items ++ command_text commands.now kind) }
+    ensures { OnOk result (out.new.items ≡ out.old.items ++ kind_lines commands.now kind) }
 {
     write_outcomes(kind, ALL_OUTCOMES.as_slice(), commands, out)
 }

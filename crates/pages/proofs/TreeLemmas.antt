@@ -1,11 +1,11 @@
 -- A tree in branches: its root is that over all leaves, and how it is made and renewed.
-use Rattle.std.proofs.Common.{◌≡◌, ◌≢◌, ℕ, zero, suc, ◌+◌, ◌*◌, ◌<◌, ◌/◌, ◌%◌, List, [], ◌∷◌, ◌++◌, map, length, take, drop, get_or, set, refl, sym, ap, ◌∙◌, arith}
+use Rattle.std.proofs.Common.{◌≡◌, ◌≢◌, ℕ, zero, suc, ◌+◌, ◌*◌, ◌<◌, ◌/◌, ◌%◌, Bool, false, List, [], ◌∷◌, ◌++◌, map, length, take, drop, get_or, set, refl, sym, ap, ◌∙◌, arith}
 use Rattle.std.specs.Prelude.{◌^◌}
 use Rattle.std.proofs.Math.Nat.{pow-succ'}
-use Rattle.std.proofs.lemmas.List.{ext_get_or, length-set, map-set, get_or-set_same, get_or-set_other, length-take-le, length-drop, take-take, drop-take, take-append-drop, get_or-take, get_or-drop, flat_map_more, length_push}
-use Rattle.wire.specs.Token.{inner_text}
+use Rattle.std.proofs.lemmas.List.{ext_get_or, length-set, get_or-set_same, get_or-set_other, length-take-le, length-drop, take-take, drop-take, take-append-drop, get_or-take, get_or-drop, flat_map_more, length_push}
 use Rattle.token.specs.declared.tree.TheConstants.{HEIGHT}
-use Rattle.token.specs.Digest.{digest, level, levels, only, root_of}
+use Rattle.token.specs.Digest.{level, levels, only, root_of}
+use Rattle.token.proofs.Levels.{length-level, levels-append}
 use Rattle.pages.specs.Page.{page_count}
 use Rattle.pages.specs.Group.{page_in_group, AreLong}
 use Rattle.pages.specs.Tree.{leaves_of, branch_height, branch_root, AreBranches}
@@ -13,26 +13,6 @@ use Rattle.pages.specs.declared.group.TheConstants.{GROUPS, GROUP_PAGES}
 use Rattle.pages.proofs.LongLemmas.{place-of, member-in, long-set, long-push, long-all}
 
 -- ---- the root
-
--- twice as many digests, and others after them
-level-append : (m : ℕ) (xs ys : List (List ℕ)) → length xs ≡ 2 * m → level (xs ++ ys) ≡ level xs ++ level ys
-level-append m [] ys e = refl
-level-append m (x ∷ []) ys e = absurd (omega arith)
-level-append zero (x ∷ y ∷ xs) ys e = absurd (omega arith)
-level-append (suc m) (x ∷ y ∷ xs) ys e = ap (λ (t : List (List ℕ)). digest (inner_text (record { left = x; right = y })) ∷ t) (level-append m xs ys (omega arith))
-
-length-level : (m : ℕ) (xs : List (List ℕ)) → length xs ≡ 2 * m → length (level xs) ≡ m
-length-level zero [] e = refl
-length-level (suc m) [] e = absurd (omega arith)
-length-level m (x ∷ []) e = absurd (omega arith)
-length-level zero (x ∷ y ∷ xs) e = absurd (omega arith)
-length-level (suc m) (x ∷ y ∷ xs) e = ap suc (length-level m xs (omega arith))
-
-levels-append : (n : ℕ) (xs ys : List (List ℕ)) → length xs ≡ 2 ^ n → levels n (xs ++ ys) ≡ levels n xs ++ levels n ys
-levels-append zero xs ys e = refl
-levels-append (suc n) xs ys e =
-    let twice : length xs ≡ 2 * 2 ^ n = e ∙ pow-succ' 2 n in
-    ap (levels n) (level-append (2 ^ n) xs ys twice) ∙ levels-append n (level xs) (level ys) (length-level (2 ^ n) xs twice)
 
 length-levels : (n : ℕ) (xs : List (List ℕ)) → length xs ≡ 2 ^ n → length (levels n xs) ≡ 1
 length-levels zero xs e = e
@@ -86,12 +66,13 @@ made-next digests branches n branch made few many is = record {
 
 -- ---- other digests of one group
 
-module _ (branches : List (List (List ℕ))) (top digests : List (List ℕ)) (group : ℕ) (are : AreBranches branches top) (long : length digests ≡ GROUP_PAGES) where
-  pub renewed-are : (new : List (List ℕ)) (root : List ℕ) → root ≡ branch_root digests → new ≡ set top group root → AreBranches (set branches group digests) new
-  renewed-are new root is made = record {
+module _ (branches : List (List (List ℕ))) (top digests : List (List ℕ)) (group : ℕ) (right : Bool) (are : AreBranches branches top right) (long : length digests ≡ GROUP_PAGES) where
+  -- then the top is not right any more
+  pub renewed-are : AreBranches (set branches group digests) top false
+  renewed-are = record {
     count = length-set branches group digests ∙ are.count;
     each = long-set branches group digests are.each long;
-    over = made ∙ (λ i. set (are.over i) group (is i)) ∙ sym (map-set branch_root branches group digests);
+    over = λ is. absurd (cc is);
   }
 
   pub renewed-count : length (leaves_of (set branches group digests)) ≡ page_count

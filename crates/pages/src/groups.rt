@@ -160,6 +160,7 @@ impl Groups {
         for group in 0..GROUPS {
             self.seal_one(group, layout, &mut left, tree)?;
         }
+        tree.renew_top();
         Ok(())
     }
 

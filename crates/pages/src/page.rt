@@ -20,6 +20,7 @@ use crate::tree::Tree;
 use base::Entry;
 use item_tree::{ItemTree, are_same};
 use items::{Item, PlainStore, Store};
+use merkle::ForkHasher;
 use proto::Key;
 use std::alloc::{AllocError, Global};
 use std::marker::Model;
@@ -121,6 +122,25 @@ impl Page {
             kept: Kept::Tree(tree),
             sealed: false,
             tree: None,
+        }
+    }
+
+    /// A page in this layout of these entries, which are shared. Of two entries with one key the first one counts. Refused
+    /// if an allocation fails, or in the same way if there are 2^32 entries or more.
+    pub fn of_entries(
+        alloc: Global,
+        layout: Layout,
+        entries: &[Entry<Key, Item>],
+    ) -> Result<Page, AllocError>
+        ensures { IfOk result (λ page. page ≡ record { items = map.from_entries entries.now; layout = layout; sealed = false }) }
+    {
+        let tree = ItemTree::of_entries(alloc, entries)?;
+        if tree.len() > MOST_ENTRIES as u64 {
+            return Err(AllocError);
+        }
+        match layout {
+            Layout::Sorted => Page::of_store(alloc, tree.to_plain(alloc)?),
+            Layout::Tree => Ok(Page::of_tree(alloc, tree)),
         }
     }
 
@@ -231,6 +251,25 @@ impl Page {
         if !self.sealed {
             self.kept.refresh();
             self.sealed = true;
+        }
+    }
+
+    /// Its allocator.
+    pub(crate) fn allocator(&self) -> Global {
+        self.alloc
+    }
+
+    /// Whether its digest is to be made.
+    pub(crate) fn is_written(&self) -> bool {
+        !self.sealed
+    }
+
+    /// Keeps the digests inside that the hasher knows, if the page was written, and asks it for those that can be made next.
+    pub(crate) fn hash_ahead(&mut self, hasher: &mut ForkHasher)
+        ensures { self.new ≡ self.old }
+    {
+        if self.is_written() {
+            self.kept.hash_ahead(hasher);
         }
     }
 

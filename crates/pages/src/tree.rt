@@ -21,6 +21,8 @@ use token::PAGES;
 pub(crate) struct Tree {
     branches: Vec<Branch>,
     top: Nodes,
+    /// Whether the top is over the roots of the branches. While branches are renewed it is not.
+    is_right: bool,
 }
 
 impl Drop for Tree {
@@ -28,6 +30,7 @@ impl Drop for Tree {
         let Tree {
             branches: _,
             top: _,
+            is_right: _,
         } = self;
     }
 }
@@ -40,7 +43,7 @@ impl Model for Tree {
 
     ghost view = { λ a. leaves_of a.branches.items };
 
-    ghost invariant = { λ a. AreBranches a.branches.items a.top };
+    ghost invariant = { λ a. AreBranches a.branches.items a.top a.is_right };
 }
 
 /// Of the digests of all pages those of one group.
@@ -86,12 +89,17 @@ impl Tree {
     {
         let branches = branches_over(alloc, digests)?;
         let top = Nodes::new(&roots_of(&branches));
-        Ok(Tree { branches, top })
+        Ok(Tree {
+            branches,
+            top,
+            is_right: true,
+        })
     }
 
     /// Makes it the tree over these digests of one group, and over the others as they are. Of the nodes just those are
     /// recomputed that are above a digest that differs, and of a tree that is shared with clones nothing is copied but
-    /// the branch of the group. The only error is a failed allocation, and then nothing has changed.
+    /// the branch of the group. `renew_top` comes after it. The only error is a failed allocation, and then nothing has
+    /// changed.
     pub(crate) fn renew_group(
         &mut self,
         group: usize,
@@ -106,11 +114,18 @@ impl Tree {
     {
         let branch = &mut self.branches[group];
         branch.renew(digests)?;
-        let root = branch.root();
-        let mut roots = self.top.leaves();
-        roots[group] = root;
-        self.top.renew(&roots);
+        self.is_right = false;
         Ok(())
+    }
+
+    /// Makes the top right, once all branches are renewed.
+    pub(crate) fn renew_top(&mut self)
+        ensures { self.new ≡ self.old }
+    {
+        if !self.is_right {
+            self.top.renew(&roots_of(&self.branches));
+            self.is_right = true;
+        }
     }
 
     /// Makes it the tree over these digests, group by group. The only error is a failed allocation.
@@ -120,6 +135,7 @@ impl Tree {
         for group in 0..GROUPS {
             self.renew_group(group, &of_group(digests, group))?;
         }
+        self.renew_top();
         Ok(())
     }
 
@@ -127,7 +143,11 @@ impl Tree {
     pub(crate) fn root(&self) -> [u8; 32]
         ensures { result ≡ root_of HEIGHT self.now }
     {
-        self.top.root()
+        if self.is_right {
+            self.top.root()
+        } else {
+            Nodes::new(&roots_of(&self.branches)).root()
+        }
     }
 }
 
@@ -139,6 +159,7 @@ impl Clone for Tree {
         Ok(Tree {
             branches: self.branches.clone()?,
             top: self.top.clone()?,
+            is_right: self.is_right,
         })
     }
 }

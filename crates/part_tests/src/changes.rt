@@ -10,9 +10,9 @@ use std::alloc::{AllocError, Global};
 /// The key of these bytes, or else `k`.
 pub fn key(alloc: Global, bytes: &[u8]) -> Result<Key, AllocError> {
     if is_key_text(bytes) {
-        return Ok(Key::new(Vec::from_slice(alloc, bytes)?));
+        return Ok(Key::from_slice(alloc, bytes)?);
     }
-    Ok(Key::new(vec![in alloc; b'k']?))
+    Ok(Key::from_slice(alloc, &[b'k'])?)
 }
 
 /// An item of these data, of which there are 16 bytes at most.

@@ -67,7 +67,7 @@ fn found(alloc: Global, size: usize, unique: Option<u64>) -> Result<Found, Alloc
     requires { size ≤ MOST_BLOCK_BYTES }
 {
     Ok(Found {
-        key: Key::new(vec![in alloc; b'k']?),
+        key: Key::from_slice(alloc, &[b'k'])?,
         flags: 7,
         block: Block::new(vec![in alloc; b'x'; size]?)?,
         unique,

@@ -6,7 +6,7 @@ use std::alloc::{AllocError, Global};
 
 /// The client's request of this number. Both begin at 1, so a 0 is taken as 1.
 pub fn ask(alloc: Global, client: u16, number: u64) -> Result<Request, AllocError> {
-    let key = Key::new(vec![in alloc; b'k']?);
+    let key = Key::from_slice(alloc, &[b'k'])?;
     Ok(Request {
         client: client.max(1),
         number: number.max(1),

@@ -54,19 +54,6 @@ pub(crate) fn reference_state(
     State::first(alloc)
 }
 
-/// Whether both are one head.
-fn is_same_head(one: &Head, other: &Head) -> bool
-    ensures { IsTrue result ↔ (one.now ≡ other.now) }
-{
-    one.origin.form == other.origin.form
-        && one.origin.number == other.origin.number
-        && one.origin.previous == other.origin.previous
-        && one.origin.epoch == other.origin.epoch
-        && one.origin.batch == other.origin.batch
-        && one.origin.moment == other.origin.moment
-        && one.token == other.token
-}
-
 /// The state of the chain, if it has this head and no tentative state is over it.
 fn state_of_head<'s>(saved: &'s Saved, head: &Head) -> Option<&'s State>
     ensures state { IfSome result (λ state. IsState state.now) }
@@ -75,7 +62,7 @@ fn state_of_head<'s>(saved: &'s Saved, head: &Head) -> Option<&'s State>
 {
     let state = saved.chain.alone()?;
     state.is_state();
-    if is_same_head(&state.head(), head) {
+    if state.head().is_same(head) {
         Some(state)
     } else {
         None

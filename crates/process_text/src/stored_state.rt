@@ -7,6 +7,7 @@ ghost use Rattle.states.specs.StateRecord.{state_text};
 ghost use Rattle.process_text.specs.StateOf.{IsStateOf, front_text};
 
 use crate::process_text::ProcessText;
+use pages::Pages;
 use proto::Fault;
 use states::{State, Version, states_are_told_apart};
 use std::alloc::{AllocError, Global};
@@ -49,5 +50,13 @@ impl ProcessText {
             Some(_) => read_state(alloc, bytes),
             None => Err(Fault::BadRecord),
         }
+    }
+
+    /// The state of this head and these sessions with the items of these pages. `BadRecord`: there is none, as if an item
+    /// was changed, since the token is not the one that comes out. `NoMemory` is the only other error.
+    pub fn state_with(&self, alloc: Global, pages: Pages) -> Result<State, Fault>
+        ensures { IfOk result (IsStateOf self.now) }
+    {
+        self.head.state(alloc, self.sessions.clone()?, pages)
     }
 }

@@ -1,11 +1,12 @@
-ghost use Rattle.std.specs.Prelude.{◌≡◌, ◌≤◌, ◌↔◌, length, IsTrue};
+ghost use Rattle.std.specs.Prelude.{◌≡◌, ◌≤◌, ◌↔◌, length, IsTrue, IfOk};
 ghost use Rattle.std.specs.Cmp.Lexicographic.{slice_cmp};
 ghost use Rattle.std.specs.Ordering.{nat_cmp};
 ghost use Rattle.std.specs.List.{list_all};
 ghost use Rattle.proto.specs.Key.{IsKey, is_key, is_key_byte as key_byte};
 
 use base::{Listed, MapKey};
-use std::alloc::AllocError;
+use smallvec::SmallVec;
+use std::alloc::{AllocError, Global};
 use std::cmp::Ordering;
 use std::marker::Model;
 
@@ -15,9 +16,13 @@ pub const MOST_KEY_BYTES: usize = 250;
 /// How many keys a line of `get` has at most.
 pub const MOST_KEYS: usize = 64;
 
+/// A key of so many bytes or fewer lies in the value itself, and is copied without an allocation. Names of sessions, a
+/// word and 32 digits, are among them.
+const MOST_BYTES_IN_PLACE: usize = 40;
+
 /// A key: 1 to `MOST_KEY_BYTES` bytes, each a printing one that is no space (protocol.txt, "Keys").
 pub struct Key {
-    bytes: Vec<u8>,
+    bytes: SmallVec<u8, MOST_BYTES_IN_PLACE>,
 }
 
 impl Drop for Key {
@@ -59,12 +64,14 @@ pub fn is_key_text(bytes: &[u8]) -> bool
 }
 
 impl Key {
-    /// The key of these bytes, which may be one (`is_key_text`).
-    pub fn new(bytes: Vec<u8>) -> Key
-        requires { IsKey bytes.items }
-        ensures { result ≡ bytes.items }
+    /// The key of these bytes, which may be one (`is_key_text`). The only error is a failed allocation.
+    pub fn from_slice(alloc: Global, bytes: &[u8]) -> Result<Key, AllocError>
+        requires { IsKey bytes.now }
+        ensures { IfOk result (λ key. key ≡ bytes.now) }
     {
-        Key { bytes }
+        Ok(Key {
+            bytes: SmallVec::from_slice(alloc, bytes)?,
+        })
     }
 
     /// Its bytes.
@@ -91,7 +98,7 @@ impl Clone for Key {
 
     fn clone(&self) -> Result<Key, AllocError> {
         Ok(Key {
-            bytes: self.bytes.clone()?,
+            bytes: SmallVec::from_slice(*self.bytes.allocator(), self.bytes.as_slice())?,
         })
     }
 }

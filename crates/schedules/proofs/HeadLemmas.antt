@@ -6,7 +6,7 @@ use Rattle.std.proofs.lemmas.Slice.Eq.{bytes_eq-Decides}
 use Rattle.proto.specs.Line.{◌>>=◌}
 use Rattle.proto.specs.Number.{number_below}
 use Rattle.events.specs.Config.{ConfigView}
-use Rattle.events.specs.declared.config.TheConstants.{MOST_CLIENTS}
+use Rattle.schedules.specs.declared.schedule.TheConstants.{MOST_CLIENTS}
 use Rattle.schedules.specs.declared.line.ScheduleLine.{ScheduleLine}
 use Rattle.schedules.specs.declared.schedule.Schedule.{Schedule}
 use Rattle.schedules.specs.Parts.{parted}

@@ -4,7 +4,7 @@ use Rattle.std.specs.Option.{option_map}
 use Rattle.proto.specs.Line.{◌>>=◌}
 use Rattle.proto.specs.Number.{number_below}
 use Rattle.events.specs.Config.{ConfigView}
-use Rattle.events.specs.declared.config.TheConstants.{MOST_CLIENTS}
+use Rattle.schedules.specs.declared.schedule.TheConstants.{MOST_CLIENTS}
 use Rattle.events.specs.declared.event.Event.{Event}
 use Rattle.events.specs.declared.event.Event.TheVariants.{Feed, Again, Hangup, Deliver, Cut, Step, Finish, Suspect, Crash, Restart, Lost, FailSave}
 use Rattle.events.specs.declared.event.Replica.{Replica}

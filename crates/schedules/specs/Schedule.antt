@@ -1,7 +1,7 @@
 -- What a file says as a schedule.
 use Rattle.std.specs.Prelude.{◌≡◌, ◌⊎◌, ℕ, zero, suc, ◌+◌, ◌<◌, ◌≤◌, ◌==◌, not, Bool, true, List, [], ◌∷◌, length, take, filter, if◌then◌else◌, codes}
 use Rattle.std.specs.List.{AllZip, onto_first}
-use Rattle.events.specs.declared.config.TheConstants.{MOST_CLIENTS}
+use Rattle.schedules.specs.declared.schedule.TheConstants.{MOST_CLIENTS}
 use Rattle.schedules.specs.declared.fault.ScheduleFault.{ScheduleFault}
 use Rattle.schedules.specs.declared.fault.ScheduleFault.TheVariants.{NoMemory, BadSchedule}
 use Rattle.schedules.specs.declared.schedule.Schedule.{Schedule}

@@ -24,4 +24,4 @@ pub use laws::{
 pub use line::ScheduleLine;
 pub use number::{MOST_EVENTS, MOST_PLACES};
 pub use printing::write_printed;
-pub use schedule::Schedule;
+pub use schedule::{MOST_CLIENTS, Schedule};

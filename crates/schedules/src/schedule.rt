@@ -8,9 +8,12 @@ ghost use Rattle.schedules.specs.Reading.{size_said, clients_said, head_said, li
 use crate::fault::ScheduleFault;
 use crate::line::{ScheduleLine, line_of};
 use crate::parts::parted;
-use events::{Config, MOST_CLIENTS};
+use events::Config;
 use proto::number_in;
 use std::alloc::Global;
+
+/// How many clients a schedule has at most. A world may have more.
+pub const MOST_CLIENTS: u16 = 64;
 
 /// How large a world is, and what happens in it.
 #[derive(Drop)]

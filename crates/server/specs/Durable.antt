@@ -3,7 +3,7 @@ use Rattle.std.specs.Prelude.{◌≡◌, ◌⊎◌, ℕ, List, [], ◌++◌, Opt
 use Rattle.event_loop.specs.declared.message.Said.{Said}
 use Rattle.service.specs.Service.{ServiceView}
 use Rattle.service.specs.Record.{RecordView, kept_in}
-use Rattle.service.specs.Process.{kept_of}
+use Rattle.service.specs.Process.{kept_service}
 use Rattle.server.specs.Answering.{AnsweringView, DoesWhatIsDue}
 
 -- ---- what another process finds
@@ -16,7 +16,7 @@ IsFoundOf is_text kept (Some text) = is_text kept text
 -- What it finds is a text of what is kept of the service if its process ends now.
 pub record IsOfMoment (is_text : RecordView → List ℕ → Type 0) (v : ServiceView) (found : Option (List ℕ)) : Type 0 where
   pub kept : RecordView
-  pub of_moment : kept_in v.connections.dialect kept ≡ kept_of v
+  pub of_moment : kept_in v.connections.dialect kept ≡ kept_service v
   pub is_found : IsFoundOf is_text kept found
 
 -- whatever it may find is of this moment

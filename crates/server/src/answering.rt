@@ -88,7 +88,7 @@ impl Model for Answering {
 
 impl Answering {
     ghost use Rattle.std.specs.Prelude.{◌≡◌, ◌≢◌, ◌⊎◌, ◌++◌, ◌∷◌, [], map, length, true, false, IfOk, IfErr};
-    ghost use Rattle.service.specs.Process.{kept_of};
+    ghost use Rattle.service.specs.Process.{kept_service};
     ghost use Rattle.service.specs.Record.{kept_in};
     ghost use Rattle.server.specs.Answering.{Says, SaysEach, Closings, HandsBytes, HandsLeft, HandsWritten};
 
@@ -140,7 +140,7 @@ impl Answering {
 
     /// What is kept of the service if its process ends now.
     pub fn record(&self) -> Result<ServiceRecord, Fault>
-        ensures kept { IfOk result (λ r. kept_in self.now.service.connections.dialect r ≡ kept_of self.now.service) }
+        ensures kept { IfOk result (λ r. kept_in self.now.service.connections.dialect r ≡ kept_service self.now.service) }
     {
         self.service.record(self.alloc)
     }

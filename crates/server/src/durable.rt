@@ -224,7 +224,7 @@ impl<S: Save> DurableService<S> {
 impl<S: Save> DurableService<S> {
     ghost use denote.Param.Send.{IsSync};
     ghost use Rattle.std.specs.Prelude.{◌≡◌, ◌⊎◌, [], true, false};
-    ghost use Rattle.service.specs.Process.{kept_of};
+    ghost use Rattle.service.specs.Process.{kept_service};
     ghost use Rattle.service.specs.Record.{kept_in};
     ghost use Rattle.server.specs.Durable.{HandsOutSaved};
 
@@ -238,7 +238,7 @@ impl<S: Save> DurableService<S> {
         seconds: u32,
     ) -> Vec<Said>
         requires sync { IsSync R.row }
-        requires moment { kept_in self.old.answering.service.connections.dialect due ≡ kept_of self.old.answering.service }
+        requires moment { kept_in self.old.answering.service.connections.dialect due ≡ kept_service self.old.answering.service }
         ensures saved { HandsOutSaved S.is_text (S.may_find self.old.saver) (S.may_find self.new.saver) seconds self.old.answering self.old.held.items result.items self.new.answering self.new.held.items }
         ensures failing { self.new.is_failing ≡ true → result.items ≡ [] }
         ensures leaves { self.new.is_failing ≡ false → result.items ≡ self.old.held.items }

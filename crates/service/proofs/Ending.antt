@@ -11,7 +11,7 @@ use Rattle.service.specs.declared.assignment.Assignment.{Assignment}
 use Rattle.service.specs.declared.assignment.Outstanding.{Outstanding}
 use Rattle.service.specs.declared.pause.Pause.{Pause}
 use Rattle.service.specs.Service.{ServiceView, IsAssigned, IsService, HasEnsemble}
-use Rattle.service.specs.Process.{IsWhole, IsServiceAlone, KeptService, kept_of, found_as, found_by, HasAll, NobodyWaits, reopened_service, service_after, HoldsAfter, IsServiceAfter, IsProcess, AreSuccessive, AreReopened, next_found, services_after, services_with}
+use Rattle.service.specs.Process.{IsWhole, IsServiceAlone, KeptService, kept_service, found_as, found_by, HasAll, NobodyWaits, reopened_service, service_after, HoldsAfter, IsServiceAfter, IsProcess, AreSuccessive, AreReopened, next_found, services_after, services_with}
 use Rattle.service.proofs.Joining.{joined_whole}
 
 -- a law of `ensemble`
@@ -99,7 +99,7 @@ module _ (v : ServiceView) (waiting : List (Option Outstanding)) (pauses : List 
 pub begins_after : EnsembleFollows → (found : KeptService) (waiting : List (Option Outstanding)) (pauses : List Pause) → NobodyWaits waiting → IsServiceAfter (Some found) (reopened_service found waiting pauses)
 begins_after follows found waiting pauses none before h all is =
     let whole = still_whole before waiting pauses follows none all h in
-    let same : ended before waiting pauses ≡ service_after before (reopened_service (kept_of before) waiting pauses) = λ i. record {
+    let same : ended before waiting pauses ≡ service_after before (reopened_service (kept_service before) waiting pauses) = λ i. record {
       connections = record {
         dialect = before.connections.dialect;
         table = [];
@@ -148,12 +148,12 @@ pub own_after : (v : ServiceView) → IsServiceAlone v → IsEnsembleAfter v.rep
 own_after v own world = after_found v v.replicas.ensemble.found own world
 
 -- what always holds of a service holds of processes one after the other
-pub all_whole : (v : ServiceView) (later : List ServiceView) → IsWhole v → HasAll v → AreSuccessive (Some (kept_of v)) later → IsWhole (services_after v later)
+pub all_whole : (v : ServiceView) (later : List ServiceView) → IsWhole v → HasAll v → AreSuccessive (Some (kept_service v)) later → IsWhole (services_after v later)
 all_whole v [] h all follow = h
 all_whole v (next ∷ later) h all follow = all_whole (service_after v next) later (follow.0 v h all refl) follow.1 follow.2
 
 -- each was opened again with what was kept of the one before it, and so is this one
-behind_all : (x : ServiceView) (later : List ServiceView) (v : ServiceView) → IsWhole x → HasAll x → AreReopened (Some (kept_of x)) later → IsProcess v → found_by v ≡ next_found (Some (kept_of x)) later → IsWhole (services_after x (later ++ v ∷ []))
+behind_all : (x : ServiceView) (later : List ServiceView) (v : ServiceView) → IsWhole x → HasAll x → AreReopened (Some (kept_service x)) later → IsProcess v → found_by v ≡ next_found (Some (kept_service x)) later → IsWhole (services_after x (later ++ v ∷ []))
 behind_all x [] v h all are is found = subst (λ (k : Option KeptService). IsServiceAfter k v) found is x h all refl
 behind_all x (y ∷ later) v h all are is found =
     let next : IsWhole (service_after x y) = subst (λ (k : Option KeptService). IsServiceAfter k y) are.1 are.0 x h all refl in

@@ -45,8 +45,8 @@ pub record KeptService : Type 0 where
   pub next : ℕ
 
 -- what is kept if the process ends now
-abbrev pub kept_of : ServiceView → KeptService
-kept_of v = record { replicas = process_of v.replicas.ensemble.nodes; dialect = v.connections.dialect; next = v.connections.next }
+abbrev pub kept_service : ServiceView → KeptService
+kept_service v = record { replicas = process_of v.replicas.ensemble.nodes; dialect = v.connections.dialect; next = v.connections.next }
 
 -- what this process began with, if it began with what was kept of another one
 abbrev pub found_as : Dialect → ℕ → Option ProcessView → Option KeptService
@@ -113,7 +113,7 @@ service_after before v = record {
 -- This holds of a service with all that was asked and given before, if its process began with this: whatever service it was kept of, it holds of that one and this one as one service.
 abbrev pub HoldsAfter : Option KeptService → (ServiceView → Type 0) → ServiceView → Type 0
 HoldsAfter None Holds v = Holds v
-HoldsAfter (Some found) Holds v = (before : ServiceView) → IsWhole before → HasAll before → kept_of before ≡ found → Holds (service_after before v)
+HoldsAfter (Some found) Holds v = (before : ServiceView) → IsWhole before → HasAll before → kept_service before ≡ found → Holds (service_after before v)
 
 -- What always holds of a service whose process began with this.
 abbrev pub IsServiceAfter : Option KeptService → ServiceView → Type 0
@@ -126,17 +126,17 @@ IsProcess v = IsServiceAfter (found_by v) v
 -- processes one after the other, the first of which began with this: each later one began with what was kept of the one before it
 abbrev pub AreSuccessive : Option KeptService → List ServiceView → Type 0
 AreSuccessive found [] = Unit {0}
-AreSuccessive found (v ∷ later) = IsServiceAfter found v × HasAll v × AreSuccessive (Some (kept_of v)) later
+AreSuccessive found (v ∷ later) = IsServiceAfter found v × HasAll v × AreSuccessive (Some (kept_service v)) later
 
 -- processes one after the other, the first of which began with this: each later one was opened again with what was kept of the one before it
 abbrev pub AreReopened : Option KeptService → List ServiceView → Type 0
 AreReopened found [] = Unit {0}
-AreReopened found (v ∷ later) = IsProcess v × (found_by v ≡ found) × HasAll v × AreReopened (Some (kept_of v)) later
+AreReopened found (v ∷ later) = IsProcess v × (found_by v ≡ found) × HasAll v × AreReopened (Some (kept_service v)) later
 
 -- what the one after all of these was opened again with
 abbrev pub next_found : Option KeptService → List ServiceView → Option KeptService
 next_found found [] = found
-next_found found (v ∷ later) = next_found (Some (kept_of v)) later
+next_found found (v ∷ later) = next_found (Some (kept_service v)) later
 
 -- all that was asked and given in this one, and then in the later ones
 abbrev pub services_after : ServiceView → List ServiceView → ServiceView

@@ -29,7 +29,7 @@ fn pool_of(alloc: Global, replicas: &ProcessRecord) -> Result<Pool, Fault>
 
 impl Service {
     ghost use Rattle.std.specs.Prelude.{◌≡◌, ◌⊎◌, ◌≤◌, ◌^◌, Err, IfOk, IfErr, length};
-    ghost use Rattle.service.specs.Process.{kept_of, HasAll};
+    ghost use Rattle.service.specs.Process.{kept_service, HasAll};
     ghost use Rattle.service.specs.Record.{kept_in, IsBegunWith};
 
     /// What is kept of it at this moment, if its process ends then. A service that is reopened with it (`reopen`) goes on
@@ -38,7 +38,7 @@ impl Service {
     ///
     /// Nothing changes. Stopped: a replica is lost for good, which no call here leads to; NoMemory: an allocation failed.
     pub fn record(&self, alloc: Global) -> Result<ServiceRecord, Fault>
-        ensures kept { IfOk result (λ r. kept_in self.now.connections.dialect r ≡ kept_of self.now) }
+        ensures kept { IfOk result (λ r. kept_in self.now.connections.dialect r ≡ kept_service self.now) }
         ensures all { IfOk result (λ r. HasAll self.now) }
         ensures only { IfErr result (λ fault. (fault ≡ Fault.NoMemory) ⊎ (fault ≡ Fault.Stopped)) }
     {

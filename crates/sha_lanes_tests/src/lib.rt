@@ -4,4 +4,6 @@
 #[cfg(test)]
 mod of_lengths;
 #[cfg(test)]
+mod of_nodes;
+#[cfg(test)]
 mod of_rows;

@@ -55,7 +55,7 @@ same_pages v w is =
     (λ k l. get_or-map-range_with_len (page_items v) 0 page_count k k no_items l (omega arith) ∙ is k l) in
     sym (joined-parts v) ∙ (ap joined_pages same ∙ joined-parts w)
 
-own_snoc : (p : ℕ) (pages : List Items) (m : Items) → AreOwn p pages → IsOwn (p + length pages) m → AreOwn p (pages ++ m ∷ [])
+pub own_snoc : (p : ℕ) (pages : List Items) (m : Items) → AreOwn p pages → IsOwn (p + length pages) m → AreOwn p (pages ++ m ∷ [])
 own_snoc p [] m own mine =
     let here : p + 0 ≡ p = omega arith in
     (subst (λ k. IsOwn k m) here mine, tt)

@@ -44,7 +44,7 @@ impl Head {
     }
 
     /// Whether it is the same head.
-    pub(crate) fn is_same(&self, other: &Head) -> bool
+    pub fn is_same(&self, other: &Head) -> bool
         ensures { IsTrue result ↔ (self.now ≡ other.now) }
     {
         self.origin.form == other.origin.form

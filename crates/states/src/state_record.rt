@@ -7,7 +7,7 @@ ghost use Rattle.pages.specs.Others.{AreSameBeside, AreChanged};
 ghost use Rattle.pages.specs.Form.{layout_of};
 ghost use Rattle.states.specs.State.{IsState};
 ghost use Rattle.states.specs.Followed.{IsSuccessor};
-ghost use Rattle.states.specs.StateRecord.{IsFirstState, IsLaterState, MakesLater, MakesSuccessor, state_text, after_text};
+ghost use Rattle.states.specs.StateRecord.{head_of_state, IsFirstState, IsLaterState, MakesLater, MakesSuccessor, state_text, after_text};
 
 use crate::changes::{changed_pages, put_changes, take_changes};
 use crate::form::{fits_form, layout_of};
@@ -15,7 +15,7 @@ use crate::head::Head;
 use crate::page_texts::{put_pages, take_pages};
 use crate::state::{Parts, State};
 use batches::{Batch, GREATEST_NUMBER};
-use pages::{PageSet, Snapshot};
+use pages::{PageSet, Pages, Snapshot};
 use proto::Fault;
 use sessions::Sessions;
 use std::alloc::{AllocError, Global};
@@ -54,6 +54,35 @@ impl Head {
         }
         state.is_state();
         Ok(state)
+    }
+
+    /// The first state, if it has this head and no sessions. `BadRecord`: it has not.
+    fn first_state(&self, alloc: Global, sessions: &Sessions) -> Result<State, Fault>
+        ensures state { IfOk result IsState }
+        ensures head { IfOk result (λ state. head_of_state state ≡ self.now) }
+        ensures sessions { IfOk result (λ state. state.sessions ≡ sessions.now) }
+    {
+        let first = State::first(alloc)?;
+        first.is_state();
+        if first.head().is_same(self) && sessions.entries().is_empty() {
+            Ok(first)
+        } else {
+            Err(Fault::BadRecord)
+        }
+    }
+
+    /// The state of this head, these sessions and items. `BadRecord`: there is none, as if an item was changed, since the
+    /// token is not the one that comes out. `NoMemory` is the only other error.
+    pub fn state(&self, alloc: Global, sessions: Sessions, pages: Pages) -> Result<State, Fault>
+        ensures state { IfOk result IsState }
+        ensures head { IfOk result (λ state. head_of_state state ≡ self.now) }
+        ensures sessions { IfOk result (λ state. state.sessions ≡ sessions) }
+    {
+        if self.origin.number == 0 {
+            return self.first_state(alloc, &sessions);
+        }
+        let sealed = pages.seal(layout_of(self.origin.form))?;
+        self.later(alloc, sessions, sealed)
     }
 
     /// The state that the batch made of the one before, of this head, these sessions and items.

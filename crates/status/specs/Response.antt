@@ -47,13 +47,13 @@ unfoldable pub type_field : Wanted → List ℕ
 type_field wanted = codes "\r\ncontent-type: " ++ type_text wanted
 
 -- the fields that each response has
-unfoldable pub fields_text : List ℕ
-fields_text = codes "cache-control: no-store\r\nx-content-type-options: nosniff\r\nconnection: close\r\n\r\n"
+unfoldable pub response_fields : List ℕ
+response_fields = codes "cache-control: no-store\r\nx-content-type-options: nosniff\r\nconnection: close\r\n\r\n"
 
 -- the status line and the fields, up to the empty line
 abbrev pub response_head : Wanted → ℕ → List ℕ
 response_head wanted n =
-    status_text wanted ++ type_field wanted ++ length_text n ++ extra_text wanted ++ fields_text
+    status_text wanted ++ type_field wanted ++ length_text n ++ extra_text wanted ++ response_fields
 
 abbrev pub response_text : Wanted → List ℕ → List ℕ
 response_text wanted body = response_head wanted (length body) ++ body

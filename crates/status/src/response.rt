@@ -1,7 +1,7 @@
 //! Responses.
 
 ghost use Rattle.std.specs.Prelude.{◌≡◌, ◌++◌, OnOk, IfOk, length};
-ghost use Rattle.status.specs.Response.{status_text, type_text, extra_text, type_field, length_text, fields_text, response_head, response_text, asked_text, note_text};
+ghost use Rattle.status.specs.Response.{status_text, type_text, extra_text, type_field, length_text, response_fields, response_head, response_text, asked_text, note_text};
 
 use crate::wanted::{Asked, Wanted};
 use itoa::Buffer;
@@ -79,9 +79,9 @@ fn write_length(length: usize, out: &mut Vec<u8>) -> Result<(), AllocError>
 }
 
 /// The fields that each response has, and the empty line.
-#[tactic(auto, unfolding(crate::specs::Response::fields_text))]
+#[tactic(auto, unfolding(crate::specs::Response::response_fields))]
 fn write_fields(out: &mut Vec<u8>) -> Result<(), AllocError>
-    ensures { OnOk result (out.new.items ≡ out.old.items ++ fields_text) }
+    ensures { OnOk result (out.new.items ≡ out.old.items ++ response_fields) }
 {
     out.extend_from_slice(
         b"cache-control: no-store\r\nx-content-type-options: nosniff\r\nconnection: close\r\n\r\n".as_slice(),

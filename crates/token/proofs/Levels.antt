@@ -5,20 +5,20 @@ use Rattle.wire.specs.Token.{inner_text}
 use Rattle.token.specs.Digest.{digest, level, levels}
 
 -- a list of twice as many
-level-append : (m : ℕ) (xs ys : List (List ℕ)) → length xs ≡ 2 * m → level (xs ++ ys) ≡ level xs ++ level ys
+pub level-append : (m : ℕ) (xs ys : List (List ℕ)) → length xs ≡ 2 * m → level (xs ++ ys) ≡ level xs ++ level ys
 level-append m [] ys e = refl
 level-append m (x ∷ []) ys e = absurd (omega arith)
 level-append zero (x ∷ y ∷ xs) ys e = absurd (omega arith)
 level-append (suc m) (x ∷ y ∷ xs) ys e = ap (λ (t : List (List ℕ)). digest (inner_text (record { left = x; right = y })) ∷ t) (level-append m xs ys (omega arith))
 
-length-level : (m : ℕ) (xs : List (List ℕ)) → length xs ≡ 2 * m → length (level xs) ≡ m
+pub length-level : (m : ℕ) (xs : List (List ℕ)) → length xs ≡ 2 * m → length (level xs) ≡ m
 length-level zero [] e = refl
 length-level (suc m) [] e = absurd (omega arith)
 length-level m (x ∷ []) e = absurd (omega arith)
 length-level zero (x ∷ y ∷ xs) e = absurd (omega arith)
 length-level (suc m) (x ∷ y ∷ xs) e = ap suc (length-level m xs (omega arith))
 
-levels-append : (n : ℕ) (xs ys : List (List ℕ)) → length xs ≡ 2 ^ n → levels n (xs ++ ys) ≡ levels n xs ++ levels n ys
+pub levels-append : (n : ℕ) (xs ys : List (List ℕ)) → length xs ≡ 2 ^ n → levels n (xs ++ ys) ≡ levels n xs ++ levels n ys
 levels-append zero xs ys e = refl
 levels-append (suc n) xs ys e =
     let twice : length xs ≡ 2 * 2 ^ n = e ∙ pow-succ' 2 n in

@@ -17,9 +17,9 @@ use wire::read;
 /// The key of this byte, or else `k`.
 fn key(alloc: Global, byte: u8) -> Result<Key, AllocError> {
     if is_key_text(&[byte]) {
-        return Ok(Key::new(vec![in alloc; byte]?));
+        return Ok(Key::from_slice(alloc, &[byte])?);
     }
-    Ok(Key::new(vec![in alloc; b'k']?))
+    Ok(Key::from_slice(alloc, &[b'k'])?)
 }
 
 /// Puts an item of one byte at the key of this byte.

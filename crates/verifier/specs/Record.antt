@@ -13,20 +13,20 @@ abbrev pub accepted_text : ℕ × Decree → List ℕ
 accepted_text a = num w64 a.0 ++ decree_text a.1
 
 -- the verifier's number and how many may fail, its view and what it has accepted
-abbrev pub head_text : ℕ → ℕ → VerifierState → List ℕ
-head_text u id s = ((num w8 id ++ num w8 u) ++ num w64 s.view) ++ option_text accepted_text s.accepted
+abbrev pub verifier_head_text : ℕ → ℕ → VerifierState → List ℕ
+verifier_head_text u id s = ((num w8 id ++ num w8 u) ++ num w64 s.view) ++ option_text accepted_text s.accepted
 
 -- the version and the kind, and all that is before the decrees; version 1 is of a verifier that has forgotten none
-abbrev pub fields_text : ℕ → ℕ → VerifierState → List ℕ
-fields_text u id s = if s.start.place == 0 then 1 ∷ 86 ∷ head_text u id s else 2 ∷ 86 ∷ (head_text u id s ++ start_text s.start)
+abbrev pub verifier_fields_text : ℕ → ℕ → VerifierState → List ℕ
+verifier_fields_text u id s = if s.start.place == 0 then 1 ∷ 86 ∷ verifier_head_text u id s else 2 ∷ 86 ∷ (verifier_head_text u id s ++ start_text s.start)
 
 -- version 1, of a verifier that has forgotten no decree
 abbrev pub whole_text : ℕ → ℕ → VerifierState → List ℕ
-whole_text u id s = 1 ∷ 86 ∷ (head_text u id s ++ list_text decree_text s.log)
+whole_text u id s = 1 ∷ 86 ∷ (verifier_head_text u id s ++ list_text decree_text s.log)
 
 -- version 2, of any other
 abbrev pub trimmed_text : ℕ → ℕ → VerifierState → List ℕ
-trimmed_text u id s = 2 ∷ 86 ∷ ((head_text u id s ++ start_text s.start) ++ list_text decree_text s.log)
+trimmed_text u id s = 2 ∷ 86 ∷ ((verifier_head_text u id s ++ start_text s.start) ++ list_text decree_text s.log)
 
 abbrev pub record_text : ℕ → ℕ → VerifierState → List ℕ
 record_text u id s = if s.start.place == 0 then whole_text u id s else trimmed_text u id s

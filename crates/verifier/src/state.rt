@@ -6,7 +6,7 @@ ghost use Rattle.decrees.specs.Start.{could_stand};
 ghost use Rattle.decrees.specs.Count.{member_count};
 ghost use Rattle.decrees.specs.Votes.{open_votes};
 ghost use Rattle.verifier.specs.State.{in_view, known, stands, next_place, new_state, first_promises, down};
-ghost use Rattle.verifier.specs.Record.{head_text, fields_text, record_text};
+ghost use Rattle.verifier.specs.Record.{verifier_head_text, verifier_fields_text, record_text};
 ghost use Rattle.verifier.specs.Lines.{learn, gone_to};
 
 use crate::record::{KIND, TRIMMED, WHOLE};
@@ -85,7 +85,7 @@ impl State {
 
     /// Writes the verifier's number and how many may fail, its view and what it has accepted.
     fn put_head(&self, u: u8, id: u8, whole: &mut Text) -> Result<(), AllocError>
-        ensures { OnOk result (whole.new ≡ whole.old ++ head_text u id self.now) }
+        ensures { OnOk result (whole.new ≡ whole.old ++ verifier_head_text u id self.now) }
     {
         id.put(whole)?;
         u.put(whole)?;
@@ -95,7 +95,7 @@ impl State {
 
     /// Writes all of its record that is before the decrees.
     fn put_fields(&self, u: u8, id: u8, whole: &mut Text) -> Result<(), AllocError>
-        ensures { OnOk result (whole.new ≡ whole.old ++ fields_text u id self.now) }
+        ensures { OnOk result (whole.new ≡ whole.old ++ verifier_fields_text u id self.now) }
     {
         let start = self.log.start();
         if start.place == 0 {

@@ -37,7 +37,7 @@ impl Record for Key {
         if !is_key_text(text) {
             return Err(Fault::BadRecord);
         }
-        Ok((Key::new(Vec::from_slice(alloc, text)?), rest))
+        Ok((Key::from_slice(alloc, text)?, rest))
     }
 
     ghost prefix_free = { key_prefix_free };

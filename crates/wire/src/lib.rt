@@ -10,6 +10,7 @@ mod batch;
 mod block;
 mod command;
 mod counted;
+mod counter;
 mod entry;
 mod fixed;
 mod front;
@@ -31,6 +32,7 @@ mod update;
 
 pub use block::LEAST_SHARED_BYTES;
 pub use counted::{Counted, put_count, put_list, take_values};
+pub use counter::Counter;
 pub use front::{take_bytes, take_first, take_mark};
 pub use laws::{
     batches_are_told_apart, commands_are_told_apart, inner_nodes_are_told_apart,

@@ -19,8 +19,9 @@ pub struct World {
 
 impl Model for World {
     ghost use Rattle.worlds.specs.contracts.client_slot.ClientSlot as client_slot;
-    ghost use Rattle.worlds.specs.contracts.executor_slot.ExecutorSlot as executor_slot;
-    ghost use Rattle.worlds.specs.contracts.verifier_slot.VerifierSlot as verifier_slot;
+    ghost use Rattle.exec_lines.specs.contracts.state.State as executor;
+    ghost use Rattle.verifier.specs.contracts.state.State as verifier;
+    ghost use Rattle.worlds.specs.UpSlots.{executor_slot_code, verifier_slot_code};
     ghost use Rattle.decrees.specs.contracts.node.Letter as letter;
     ghost use Rattle.exec_lines.specs.contracts.body.Body as body;
     ghost use Rattle.worlds.specs.World.{WorldView};
@@ -28,7 +29,7 @@ impl Model for World {
 
     ghost Value = { WorldView };
 
-    ghost coded = { world_code client_slot.the_row.coded executor_slot.the_row.coded verifier_slot.the_row.coded (letter.the_row body.the_row).coded };
+    ghost coded = { world_code client_slot.the_row.coded (executor_slot_code executor.the_row.coded) (verifier_slot_code verifier.the_row.coded) (letter.the_row body.the_row).coded };
 
     ghost view = { λ w. record { u = w.u; clients = w.clients.items; executors = w.executors.items; verifiers = w.verifiers.items; letters = w.letters.items } };
 

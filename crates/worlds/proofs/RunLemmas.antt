@@ -10,16 +10,16 @@ use Rattle.items.specs.Map.{Items}
 use Rattle.item_steps.specs.declared.step.Stamp.{Stamp}
 use Rattle.executor.specs.BatchRequest.{BatchRequest}
 use Rattle.executor.specs.Round.{first_place}
-use Rattle.executor.specs.Work.{WorkView, IsWork, HasStep, is_ready, is_group_done}
+use Rattle.executor.specs.Work.{WorkView, IsWork, is_ready}
 use Rattle.executor.specs.GroupRun.{is_untouched}
-use Rattle.executor.specs.StepOf.{step_in, step_of}
+use Rattle.executor.specs.StepOf.{step_in}
 use Rattle.exec_lines.specs.declared.body.Body.{Body}
 use Rattle.exec_lines.specs.declared.input.Input.{Input}
 use Rattle.exec_lines.specs.declared.input.Input.TheVariants as input
 use Rattle.exec_lines.specs.declared.shown.NextWork.{NextWork}
 use Rattle.exec_lines.specs.declared.shown.NextWork.TheVariants as left_work
 use Rattle.exec_lines.specs.Shown.{ComesNext}
-use Rattle.exec_lines.specs.State.{ExecutorOutcome, unchanged}
+use Rattle.exec_lines.specs.State.{ExecutorOutcome}
 use Rattle.exec_lines.specs.Lines.{work_after}
 use Rattle.exec_lines.specs.Step.{fits_a_line, is_at_end}
 use Rattle.exec_lines.specs.Job.{JobView, job_of}
@@ -27,8 +27,7 @@ use Rattle.exec_node.specs.Executor.{ExecutorView, executor_outcome, executor_re
 use Rattle.exec_node.specs.Laws.{Plays, RunIsPlayed, gets_on, none, more}
 use Rattle.worlds.specs.Slot.{Slot}
 use Rattle.worlds.specs.declared.slot.Slot.TheVariants.{Up, Down, Gone}
-use Rattle.worlds.specs.Slots.{executor_kept, ExecutorSettles}
-use Rattle.worlds.specs.Steps.{KeepsMark}
+use Rattle.worlds.specs.Slots.{ExecutorSettles}
 use Rattle.worlds.specs.Runs.{ExecutorRan, RunStops, ExecutorRuns, ExecutorSettlesAll, AllGetOn, RunIsSteps}
 
 -- ---- what the executor's call says

@@ -11,12 +11,12 @@ use Rattle.exec_lines.specs.State.{ExecutorState, ExecutorOutcome, unchanged}
 use Rattle.exec_lines.specs.Lines.{may_adopt}
 use Rattle.exec_lines.specs.Step.{fits_a_line, is_refused}
 use Rattle.exec_node.specs.Laws.{UnfitInputStays}
-use Rattle.exec_node.specs.Executor.{ExecutorView, executor_outcome, executor_record_after, OpensExecutor, IsToBeSaved}
+use Rattle.exec_node.specs.Executor.{ExecutorView, executor_outcome, executor_handled, executor_record_after, OpensExecutor, IsToBeSaved}
 use Rattle.verifier.specs.declared.input.Input as of_verifier
-use Rattle.verifier.specs.Verifier.{VerifierView, Opens}
+use Rattle.verifier.specs.Step.{fits_line}
+use Rattle.verifier.specs.Verifier.{VerifierView, outcome, handled, Opens}
 use Rattle.worlds.specs.declared.slot.Slot.TheVariants.{Up, Down}
-use Rattle.worlds.specs.Slots.{verifier_kept, executor_kept, verifier_told, executor_told, VerifierSettles, ExecutorSettles, VerifierReopens, ExecutorReopens}
-use Rattle.worlds.specs.Steps.{VerifierDoes, VerifierStops, ExecutorDoes, ExecutorStops}
+use Rattle.worlds.specs.Slots.{verifier_kept, executor_kept, VerifierSettles, ExecutorSettles, VerifierReopens, ExecutorReopens}
 
 not_both : (a b : Bool) → (IsTrue a → IsTrue b → ⊥) → IsTrue (not (a && b))
 not_both true true h = absurd (h refl refl)
@@ -58,27 +58,32 @@ abbrev done_with : ExecutorView → ExecutorOutcome → ExecutorView
 done_with e o = record e { state = o.state; saved = executor_record_after e o }
 
 -- is a step that does nothing
-pub refused_does : (e now : ExecutorView) (x : of_executor.Input) → UnfitInputStays → IsTrue (is_refused e.state x) → now ≡ e → ExecutorDoes e x now []
-refused_does e now x stays refused same =
-    let o : executor_outcome e x ≡ unchanged e.state = stays e.u e.id e.state x (refused_is_unfit e.u e.id e.state x refused) in (
+pub refused_settles : (e now : ExecutorView) (x : of_executor.Input) → UnfitInputStays → IsTrue (is_refused e.state x) → now ≡ e → ExecutorSettles (Up e) x (Up now) []
+refused_settles e now x stays refused same =
+    let o : executor_outcome e x ≡ unchanged e.state = stays e.u e.id e.state x (refused_is_unfit e.u e.id e.state x refused) in
+    inl (
       subst (λ (y : ExecutorOutcome). IsTrue (not (e.told && y.saves))) (sym o) (not_both e.told false (λ t s. cc s)),
-      same ∙ ap (done_with e) (sym o),
+      ap Up (same ∙ ap (done_with e) (sym o)),
       ap (λ (y : ExecutorOutcome). y.letters) (sym o),
     )
 
 -- ---- the relations of slots
 
-pub verifier_settles : (v now : VerifierView) (x : of_verifier.Input) (letters : List (Letter Ballot)) → VerifierDoes v x now letters → VerifierSettles (Up v) x (Up now) letters
-verifier_settles v now x letters does = inl (does.0, ap Up does.1, does.2)
+pub verifier_settles : (v now : VerifierView) (x : of_verifier.Input) (letters : List (Letter Ballot)) → IsTrue (not (v.told && (outcome v x).saves)) → now ≡ handled v x → letters ≡ (outcome v x).letters
+    → VerifierSettles (Up v) x (Up now) letters
+verifier_settles v now x letters untold does sent = inl (untold, ap Up does, sent)
 
-pub verifier_stops : (v now : VerifierView) (x : of_verifier.Input) → VerifierStops v x now → VerifierSettles (Up v) x (Down (verifier_kept now)) []
-verifier_stops v now x stops = inr (stops.0, (verifier_kept now, refl, refl, record { record_is = inl stops.1; counted = stops.2; untried = stops.3.0; spent = stops.3.1 }))
+pub verifier_stops : (v now : VerifierView) (x : of_verifier.Input) → IsTrue (fits_line v.state x) → now.saved ≡ v.saved → v.failures ≤ now.failures → (now.failures ≡ v.failures → now.told ≡ v.told) → (v.failures < now.failures → now.told ≡ false)
+    → VerifierSettles (Up v) x (Down (verifier_kept now)) []
+verifier_stops v now x fits same counted untried spent = inr (fits, (verifier_kept now, refl, refl, record { record_is = inl same; counted = counted; untried = untried; spent = spent }))
 
-pub executor_settles : (e now : ExecutorView) (x : of_executor.Input) (letters : List (Letter Body)) → ExecutorDoes e x now letters → ExecutorSettles (Up e) x (Up now) letters
-executor_settles e now x letters does = inl (does.0, ap Up does.1, does.2)
+pub executor_settles : (e now : ExecutorView) (x : of_executor.Input) (letters : List (Letter Body)) → IsTrue (not (e.told && (executor_outcome e x).saves)) → now ≡ executor_handled e x → letters ≡ (executor_outcome e x).letters
+    → ExecutorSettles (Up e) x (Up now) letters
+executor_settles e now x letters untold does sent = inl (untold, ap Up does, sent)
 
-pub executor_stops : (e now : ExecutorView) (x : of_executor.Input) → ExecutorStops e x now → ExecutorSettles (Up e) x (Down (executor_kept now)) []
-executor_stops e now x stops = inr (stops.0, (executor_kept now, refl, refl, record { record_is = inl stops.1; counted = stops.2; untried = stops.3.0; spent = stops.3.1 }))
+pub executor_stops : (e now : ExecutorView) (x : of_executor.Input) → IsTrue (fits_a_line e.u e.id e.state x) → now.saved ≡ e.saved → e.failures ≤ now.failures → (now.failures ≡ e.failures → now.told ≡ e.told) → (e.failures < now.failures → now.told ≡ false)
+    → ExecutorSettles (Up e) x (Down (executor_kept now)) []
+executor_stops e now x fits same counted untried spent = inr (fits, (executor_kept now, refl, refl, record { record_is = inl same; counted = counted; untried = untried; spent = spent }))
 
 new_is_untold : (saved : Option (List ℕ)) (told : Bool) → (saved ≡ None → IsTrue told → ⊥) → IsTrue (not (told && is_none saved))
 new_is_untold None told h = not_both told true (λ t s. h refl t)
@@ -109,23 +114,3 @@ executor_refused u id kept left same counted untried spent = inr (left, refl, re
 pub executor_opened_up : (u id : ℕ) (saved : Option (List ℕ)) (failures : ℕ) (told : Bool) (e : ExecutorView) (letters : List (Letter Body)) → OpensExecutor u id saved failures told e letters → IsTrue e.up
 executor_opened_up u id None failures told e letters opens = ap (λ (y : ExecutorView). y.up) opens.0
 executor_opened_up u id (Some bytes) failures told e letters opens = ap (λ (y : ExecutorView). y.up) opens.0
-
--- ---- a keeper whose next save is set to fail
-
-pub verifier_marked : (v now : VerifierView) (lent left : Kept) → now ≡ record v { saved = left.saved; failures = left.failures; told = left.fails_next } → left ≡ record lent { fails_next = true }
-    → lent.saved ≡ v.saved → lent.failures ≡ v.failures → now ≡ verifier_told v
-verifier_marked v now lent left is marked saved failures =
-    is ∙ (λ i. record v {
-      saved = (ap (λ (k : Kept). k.saved) marked ∙ saved) i;
-      failures = (ap (λ (k : Kept). k.failures) marked ∙ failures) i;
-      told = ap (λ (k : Kept). k.fails_next) marked i;
-    })
-
-pub executor_marked : (e now : ExecutorView) (lent left : Kept) → now ≡ record e { saved = left.saved; failures = left.failures; told = left.fails_next } → left ≡ record lent { fails_next = true }
-    → lent.saved ≡ e.saved → lent.failures ≡ e.failures → now ≡ executor_told e
-executor_marked e now lent left is marked saved failures =
-    is ∙ (λ i. record e {
-      saved = (ap (λ (k : Kept). k.saved) marked ∙ saved) i;
-      failures = (ap (λ (k : Kept). k.failures) marked ∙ failures) i;
-      told = ap (λ (k : Kept). k.fails_next) marked i;
-    })

@@ -5,7 +5,6 @@ pub mod Ballots
 pub mod Machines
 pub mod Laws
 pub mod UpSlots
-pub mod Steps
 pub mod Status
 pub mod First
 pub mod Runs

@@ -3,7 +3,9 @@ use Rattle.std.specs.Prelude.{◌≡◌, ℕ, Bool, IsTrue, List, Option, ◌⊎
 use Rattle.std.specs.Coded.{Coded, code_by, coded×, coded⊎, coded_ℕ, coded_bool, coded_list, coded_option}
 use Rattle.std.proofs.Common.{inl, inr}
 use Rattle.keeper.specs.Kept.{Kept}
-use Rattle.exec_node.specs.Executor.{ExecutorView}
+use Rattle.exec_lines.specs.State.{ExecutorState}
+use Rattle.exec_node.specs.Executor.{ExecutorView, executor_view_code}
+use Rattle.verifier.specs.State.{VerifierState}
 use Rattle.verifier.specs.Verifier.{VerifierView}
 use Rattle.worlds.specs.Slot.{Slot}
 use Rattle.worlds.specs.declared.slot.Slot.TheVariants.{Up, Down, Gone}
@@ -19,6 +21,15 @@ abbrev pub IsUpAt : {N : Type 0} → (N → Bool) → Slot N → Type 0
 IsUpAt up (Up n) = IsTrue (up n)
 IsUpAt up (Down kept) = Unit {0}
 IsUpAt up (Gone kept) = Unit {0}
+
+-- a verifier is identified by what it keeps
+abbrev verifier_view_code : Coded VerifierState → Coded VerifierView
+verifier_view_code state =
+    code_by ((((((ℕ × ℕ) × VerifierState) × Bool) × Option (List ℕ)) × ℕ) × Bool)
+    (coded× (coded× (coded× (coded× (coded× (coded× coded_ℕ coded_ℕ) state) coded_bool) (coded_option (coded_list coded_ℕ))) coded_ℕ) coded_bool)
+    (λ v. ((((((v.id, v.u), v.state), v.up), v.saved), v.failures), v.told))
+    (λ p. record { id = p.0.0.0.0.0.0; u = p.0.0.0.0.0.1; state = p.0.0.0.0.1; up = p.0.0.0.1; saved = p.0.0.1; failures = p.0.1; told = p.1 })
+    (λ _. refl)
 
 abbrev kept_code : Coded Kept
 kept_code =
@@ -44,5 +55,12 @@ module _ {N : Type 0} where
   slot_of_parts-slot_parts (Gone kept) = refl
 
   -- a slot is identified by what is there
-  abbrev pub slot_code : Coded N → Coded (Slot N)
+  abbrev slot_code : Coded N → Coded (Slot N)
   slot_code n = code_by (N ⊎ (Kept ⊎ Kept)) (coded⊎ n (coded⊎ kept_code kept_code)) slot_parts slot_of_parts slot_of_parts-slot_parts
+
+-- by the code of its state
+abbrev pub executor_slot_code : Coded ExecutorState → Coded (Slot ExecutorView)
+executor_slot_code state = slot_code (executor_view_code state)
+
+abbrev pub verifier_slot_code : Coded VerifierState → Coded (Slot VerifierView)
+verifier_slot_code state = slot_code (verifier_view_code state)

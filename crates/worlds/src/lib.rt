@@ -6,6 +6,8 @@
 //! of which each of its steps is to be one; `settle`, `run`, `restart`, `crash`, `lose` and `fail_next` of a slot,
 //! each of which is exactly the part of that relation that it names; `letter_copy`, since a letter may come
 //! any number of times; and the laws: each is the contract of a function that does nothing.
+//!
+//! Executors and verifiers have one type of slot, `NodeSlot`. `KeptNode` says what it needs of a replica.
 #![tactic(auto)]
 
 mod client_slot;
@@ -13,6 +15,7 @@ mod copies;
 mod executor_slot;
 mod kept_node;
 mod laws;
+mod node_slot;
 mod running;
 mod sending;
 mod slot;

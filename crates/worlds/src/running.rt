@@ -4,7 +4,8 @@ ghost use Rattle.std.specs.Prelude.{◌≡◌, IfSome, IfNone, OnSome, IsTrue};
 ghost use Rattle.worlds.specs.Slots.{executor_kept};
 ghost use Rattle.worlds.specs.Runs.{ExecutorRan, ExecutorRuns, RunStops, RunIsSteps};
 
-use crate::executor_slot::{ExecutorSlot, KeptExecutor};
+use crate::executor_slot::KeptExecutor;
+use crate::node_slot::NodeSlot;
 use crate::slot::Slot;
 use crate::slots::crash;
 use decrees::Letter;
@@ -36,7 +37,7 @@ fn ran<R: Threads + Wait + Sync>(
     }
 }
 
-impl ExecutorSlot {
+impl NodeSlot<KeptExecutor> {
     /// Runs its job, if it is up and has one, on at most so many threads at once; the result is what it
     /// sends. If that meets an error it stops, and is down with its record; then nothing is sent.
     #[tactic(auto, using(crate::proofs::RunLemmas::executor_runs, crate::proofs::RunLemmas::run_stops))]

@@ -2,19 +2,16 @@
 
 ghost use Rattle.std.specs.Prelude.{◌≡◌, IfOk, Some};
 ghost use Rattle.std.specs.Option.{option_map};
-ghost use Rattle.exec_node.specs.Executor.{ExecutorView};
-ghost use Rattle.verifier.specs.Verifier.{VerifierView};
-ghost use Rattle.worlds.specs.Laws.{kept_at, is_gone as is_gone_from};
-ghost use Rattle.worlds.specs.Slots.{executor_kept, verifier_kept};
+ghost use Rattle.worlds.specs.Laws.{kept_at, is_gone};
 ghost use Rattle.worlds.specs.Status.{status_of, executor_report, verifier_report, node_at, WaitsFor, is_client_open};
 
 use crate::client_slot::ClientSlot;
-use crate::executor_slot::{ExecutorSlot, KeptExecutor};
+use crate::executor_slot::KeptExecutor;
+use crate::kept_node::KeptNode;
+use crate::node_slot::NodeSlot;
 use crate::slot::Slot;
-use crate::slots::{is_gone, kept};
-use crate::verifier_slot::{KeptVerifier, VerifierSlot};
-use base::Text;
-use exec_lines::{ExecutorRecord, NextWork, Report};
+use crate::verifier_slot::KeptVerifier;
+use exec_lines::{NextWork, Report};
 use keeper::MemKeeper;
 use std::alloc::AllocError;
 
@@ -35,9 +32,9 @@ pub struct VerifierReport {
     pub view: u64,
 }
 
-impl ExecutorSlot {
-    /// The executor, if it is up.
-    pub fn node(&self) -> Option<&KeptExecutor>
+impl<N: KeptNode> NodeSlot<N> {
+    /// The replica, if it is up.
+    pub fn node(&self) -> Option<&N>
         ensures { option_map (λ node. node.now) result ≡ node_at self.now }
     {
         match &self.slot {
@@ -46,6 +43,30 @@ impl ExecutorSlot {
         }
     }
 
+    /// A keeper that has what is kept of the replica, whether it is up, down or lost. The record is shared.
+    pub fn kept(&self) -> Result<MemKeeper<N::Record>, AllocError>
+        ensures { IfOk result (λ keeper. keeper ≡ kept_at N.kept self.now) }
+    {
+        match &self.slot {
+            Slot::Up(node) => node.share_kept(),
+            Slot::Down(keeper) => keeper.share(),
+            Slot::Gone(keeper) => keeper.share(),
+        }
+    }
+
+    /// Whether the replica is lost for good.
+    pub fn is_lost(&self) -> bool
+        ensures { result ≡ is_gone (Some self.now) }
+    {
+        match &self.slot {
+            Slot::Up(_) => false,
+            Slot::Down(_) => false,
+            Slot::Gone(_) => true,
+        }
+    }
+}
+
+impl NodeSlot<KeptExecutor> {
     /// Whether the executor is there, and how far it is.
     pub fn status(&self) -> Status<Report>
         ensures { result ≡ status_of executor_report self.now }
@@ -55,20 +76,6 @@ impl ExecutorSlot {
             Slot::Down(_) => Status::Down,
             Slot::Gone(_) => Status::Lost,
         }
-    }
-
-    /// A keeper that has what is kept of the executor, whether it is up, down or lost. The record is shared.
-    pub fn kept(&self) -> Result<MemKeeper<ExecutorRecord>, AllocError>
-        ensures { IfOk result (λ keeper. keeper ≡ kept_at executor_kept self.now) }
-    {
-        kept(&self.slot)
-    }
-
-    /// Whether the executor is lost for good.
-    pub fn is_lost(&self) -> bool
-        ensures { result ≡ is_gone_from (Some self.now) }
-    {
-        is_gone(&self.slot)
     }
 
     /// What comes next of the work of an executor that is up and has work.
@@ -82,17 +89,7 @@ impl ExecutorSlot {
     }
 }
 
-impl VerifierSlot {
-    /// The verifier, if it is up.
-    pub fn node(&self) -> Option<&KeptVerifier>
-        ensures { option_map (λ node. node.now) result ≡ node_at self.now }
-    {
-        match &self.slot {
-            Slot::Up(node) => Some(node),
-            _ => None,
-        }
-    }
-
+impl NodeSlot<KeptVerifier> {
     /// Whether the verifier is there, and how far it is.
     pub fn status(&self) -> Status<VerifierReport>
         ensures { result ≡ status_of verifier_report self.now }
@@ -105,20 +102,6 @@ impl VerifierSlot {
             Slot::Down(_) => Status::Down,
             Slot::Gone(_) => Status::Lost,
         }
-    }
-
-    /// A keeper that has what is kept of the verifier, whether it is up, down or lost. The record is shared.
-    pub fn kept(&self) -> Result<MemKeeper<Text>, AllocError>
-        ensures { IfOk result (λ keeper. keeper ≡ kept_at verifier_kept self.now) }
-    {
-        kept(&self.slot)
-    }
-
-    /// Whether the verifier is lost for good.
-    pub fn is_lost(&self) -> bool
-        ensures { result ≡ is_gone_from (Some self.now) }
-    {
-        is_gone(&self.slot)
     }
 }
 

@@ -4,7 +4,7 @@ use Rattle.worlds.specs.Slot.{Slot}
 use Rattle.worlds.specs.declared.slot.Slot.TheVariants.{Up}
 use Rattle.worlds.specs.Runs.{ExecutorRuns}
 use Rattle.worlds.proofs.RunLemmas.{executor_runs}
-use Rattle.worlds.proofs.executor_slot.ExecutorSlot.run.Goals as goal
+use Rattle.worlds.proofs.running.NodeSlot+KeptExecutor.run.Goals as goal
 
 pub returns-in-Some : goal.returns-in-Some
 returns-in-Some g c =
