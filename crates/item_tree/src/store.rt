@@ -1,6 +1,6 @@
 use base::Entry;
 use items::{Item, Store};
-use merkle::{ForkHasher, MerkleMap};
+use merkle::MerkleMap;
 use proto::Key;
 use std::alloc::{AllocError, Global};
 use std::marker::Model;
@@ -119,14 +119,6 @@ impl ItemTree {
         ensures same { self.new ≡ self.old }
     {
         self.items.seal()
-    }
-
-    /// Keeps the digests that the hasher knows, and asks it for those that can be made next, so that those of several
-    /// stores are made together. It does not fail.
-    pub fn hash_ahead(&mut self, hasher: &mut ForkHasher)
-        ensures { self.new ≡ self.old }
-    {
-        self.items.hash_ahead(hasher);
     }
 
     /// Puts an entry, which may be shared with others. The only error is a failed allocation, and then

@@ -22,7 +22,7 @@ fn empty_digest() -> [u8; 32]
 }
 
 /// The digest of a fork over two sides of these digests, which both have keys.
-pub(crate) fn fork_digest(left: &[u8; 32], right: &[u8; 32]) -> [u8; 32]
+fn fork_digest(left: &[u8; 32], right: &[u8; 32]) -> [u8; 32]
     ensures { result ≡ sha256 (fork_text left.now right.now) }
 {
     let mut hasher = Sha256::new();

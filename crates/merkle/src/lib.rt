@@ -8,7 +8,6 @@
 //! apart that were hashed.
 #![tactic(auto)]
 
-mod ahead;
 mod differing;
 mod dropping;
 mod due;
@@ -25,7 +24,6 @@ mod removing;
 mod sharing;
 mod walking;
 
-pub use ahead::ForkHasher;
 pub use key::{TreeKey, TreeValue};
 pub use laws::digests_tell_maps;
 pub use merkle_map::MerkleMap;

@@ -1,7 +1,6 @@
 ghost use Rattle.std.specs.Prelude.{◌≡◌, ◌+◌, cond, true, IfOk, OnOk, MatchOption};
 ghost use Rattle.merkle.specs.Tree.{IsLeaf};
 
-use crate::ahead::{ForkHasher, ahead_at};
 use crate::differing::differ_at;
 use crate::dropping::{drop_at, leaf_bytes};
 use crate::due::is_above;
@@ -233,14 +232,6 @@ impl<K: TreeKey + Drop, V: TreeValue<K> + Drop> MerkleMap<K, V> {
     {
         let _ = rehash_at(&mut self.tree);
         self.digest()
-    }
-
-    /// Keeps the digests that the hasher knows, and asks it for those that can be made next: so digests of several maps are
-    /// made together before each is sealed. It does not fail: what there is no memory for is not kept.
-    pub fn hash_ahead(&mut self, hasher: &mut ForkHasher)
-        ensures { self.new ≡ self.old }
-    {
-        let _ = ahead_at(&mut self.tree, hasher);
     }
 
     /// Writes the texts of its entries, in the order of their paths.

@@ -5,8 +5,6 @@
 #[cfg(test)]
 mod entries;
 #[cfg(test)]
-mod of_ahead;
-#[cfg(test)]
 mod of_differences;
 #[cfg(test)]
 mod of_orders;

@@ -4,7 +4,7 @@ use Rattle.std.proofs.Math.Nat.{eq-or-lt_of_le}
 use Rattle.std.proofs.lemmas.List.{ext_get_or, length-drop, get_or-drop, drop_more, drop-set-lt, get_or_default, get_or-set_same, get_or-set_other, length-set}
 use Rattle.wire.specs.Token.{inner_text}
 use Rattle.token.specs.Digest.{digest, level, levels, only, root_of}
-use Rattle.pages.specs.Tree.{leaves, branch_root, IsAbove, IsTree, IsAboveSame, IsRenewed}
+use Rattle.pages.specs.Tree.{leaves, branch_root, IsAbove, IsTree, IsAboveSame}
 use Rattle.pages.specs.declared.group.TheConstants.{GROUP_PAGES}
 
 -- so many nodes from node a on
@@ -32,6 +32,14 @@ level-from nodes a (suc n) above =
     ap (λ m. level (nodes_from nodes (2 * a) m)) twice
     ∙ (λ i. here i ∷ level (nodes_from nodes (next i) (2 * n)))
     ∙ ap (λ (rest : List (List ℕ)). get_or nodes a [] ∷ rest) (level-from nodes (a + 1) n (λ k from below. above k (omega arith) (omega arith)))
+
+-- The inner nodes from k on are renewed, and those below k where nothing under them is marked.
+pub record IsRenewed (old nodes : List (List ℕ)) (changed : List Bool) (k : ℕ) : Type 0 where
+  pub count : length nodes ≡ 2 * GROUP_PAGES
+  pub marks : length changed ≡ 2 * GROUP_PAGES
+  pub kept : leaves nodes ≡ leaves old
+  pub done : (j : ℕ) → 0 < j → k ≤ j → j < GROUP_PAGES → IsAbove nodes j
+  pub left : (j : ℕ) → 0 < j → j < k → IsAboveSame nodes changed j
 
 module _ (nodes : List (List ℕ)) (tree : IsTree nodes) where
   level-up : (n : ℕ) → 0 < n → n + n ≤ GROUP_PAGES → level (nodes_from nodes (2 * n) (2 * n)) ≡ nodes_from nodes n n

@@ -1,7 +1,7 @@
 -- A tree over the digests of the pages: a branch over those of each group, and a top over the roots of the branches. Each
 -- of these has all its nodes in one list: node 1 is the root, the nodes below node k are 2k and 2k + 1, and the last ones,
 -- as many as a group has pages, are the leaves.
-use Rattle.std.specs.Prelude.{◌≡◌, ℕ, ◌+◌, ◌*◌, ◌<◌, ◌≤◌, List, [], length, drop, map, slice_index_or, Bool, true, false}
+use Rattle.std.specs.Prelude.{◌≡◌, ℕ, ◌+◌, ◌*◌, ◌<◌, List, [], length, drop, map, slice_index_or, Bool, true, false}
 use Rattle.std.specs.List.{flat_map}
 use Rattle.wire.specs.Token.{inner_text}
 use Rattle.token.specs.Digest.{digest, root_of}
@@ -24,14 +24,6 @@ pub record IsTree (nodes : List (List ℕ)) : Type 0 where
 -- Node k is the digest of the two below it, or else one of them is marked as changed.
 abbrev pub IsAboveSame : List (List ℕ) → List Bool → ℕ → Type 0
 IsAboveSame nodes changed k = slice_index_or changed (2 * k) false ≡ false → slice_index_or changed (2 * k + 1) false ≡ false → IsAbove nodes k
-
--- The inner nodes from k on are renewed, and those below k where nothing under them is marked.
-pub record IsRenewed (old nodes : List (List ℕ)) (changed : List Bool) (k : ℕ) : Type 0 where
-  pub count : length nodes ≡ 2 * GROUP_PAGES
-  pub marks : length changed ≡ 2 * GROUP_PAGES
-  pub kept : leaves nodes ≡ leaves old
-  pub done : (j : ℕ) → 0 < j → k ≤ j → j < GROUP_PAGES → IsAbove nodes j
-  pub left : (j : ℕ) → 0 < j → j < k → IsAboveSame nodes changed j
 
 -- how many levels the root of a branch is above its leaves, and that of the top above the roots of branches
 abbrev pub branch_height : ℕ

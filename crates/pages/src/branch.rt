@@ -1,17 +1,14 @@
 //! A branch of the tree over the digests of all pages: the tree over those of one group.
 
-ghost use Rattle.std.specs.Prelude.{◌≡◌, ◌≢◌, ◌+◌, ◌*◌, ◌<◌, ◌≤◌, ℕ, List, length, true, false, slice_index_or, [], IfOk, OnOk, OnErr};
-ghost use Rattle.wire.specs.Token.{inner_text};
-ghost use Rattle.token.specs.Digest.{digest as digest_of};
-ghost use Rattle.pages.specs.Tree.{leaves, branch_root, IsTree, IsAboveSame, IsRenewed};
+ghost use Rattle.std.specs.Prelude.{◌≡◌, ◌*◌, ◌<◌, ℕ, length, true, false, slice_index_or, [], IfOk, OnOk, OnErr};
+ghost use Rattle.pages.specs.Tree.{leaves, branch_root, IsTree, IsAboveSame};
 ghost use Rattle.pages.specs.declared.group.TheConstants.{GROUP_PAGES};
 
 use crate::group::GROUP_PAGES;
-use sha_lanes::Pair;
 use std::alloc::{AllocError, Global};
 use std::marker::Model;
 use std::sync::Arc;
-use token::{inner_digest, inner_digest4};
+use token::inner_digest;
 
 /// The places of a tree over as many digests as a group has pages. Place 0 is not used.
 const NODES: usize = 2 * GROUP_PAGES;
@@ -58,118 +55,18 @@ fn set_leaves(nodes: &mut [[u8; 32]; NODES], digests: &[[u8; 32]; GROUP_PAGES]) 
     changed
 }
 
-/// The two digests below a node.
-fn below(nodes: &[[u8; 32]; NODES], node: usize) -> Pair
-    requires { node < GROUP_PAGES }
-    ensures left { result.left ≡ slice_index_or nodes.now (2 * node) [] }
-    ensures right { result.right ≡ slice_index_or nodes.now (2 * node + 1) [] }
-{
-    Pair {
-        left: nodes[2 * node],
-        right: nodes[2 * node + 1],
-    }
-}
-
-/// Whether one of the two nodes below is marked as changed.
-fn is_above_change(changed: &[bool; NODES], node: usize) -> bool
-    requires { node < GROUP_PAGES }
-    ensures left { result ≡ false → slice_index_or changed.now (2 * node) false ≡ false }
-    ensures right { result ≡ false → slice_index_or changed.now (2 * node + 1) false ≡ false }
-{
-    changed[2 * node] || changed[2 * node + 1]
-}
-
-/// How many of four neighbours are above a changed node.
-fn changes_below(changed: &[bool; NODES], first: usize) -> usize
-    requires { first ≤ 12 }
-{
-    let mut count = 0;
-    for place in 0..4 {
-        if is_above_change(changed, first + place) {
-            count += 1;
-        }
-    }
-    count
-}
-
-/// Sets a node that is made of the two below it, and marks it as changed.
-fn set_node(
-    nodes: &mut [[u8; 32]; NODES],
-    changed: &mut [bool; NODES],
-    node: usize,
-    digest: [u8; 32],
-)
-    requires some { 0 < node }
-    requires few { node < GROUP_PAGES }
-    ensures renewed { (first : List (List ℕ)) → digest ≡ digest_of (inner_text (record { left = slice_index_or nodes.old (2 * node) []; right = slice_index_or nodes.old (2 * node + 1) [] }))
-        → IsRenewed first nodes.old changed.old (node + 1) → IsRenewed first nodes.new changed.new node }
-    ensures others { (k : ℕ) → k ≢ node → slice_index_or nodes.new k [] ≡ slice_index_or nodes.old k [] }
-{
-    nodes[node] = digest;
-    changed[node] = true;
-}
-
-/// Makes four neighbours new, side by side.
-fn renew_four(nodes: &mut [[u8; 32]; NODES], changed: &mut [bool; NODES], first: usize)
-    requires low { 4 ≤ first }
-    requires high { first ≤ 12 }
-    ensures { (before : List (List ℕ)) → IsRenewed before nodes.old changed.old (first + 4) → IsRenewed before nodes.new changed.new first }
-{
-    let made = inner_digest4(
-        &below(nodes, first),
-        &below(nodes, first + 1),
-        &below(nodes, first + 2),
-        &below(nodes, first + 3),
-    );
-    set_node(nodes, changed, first + 3, made[3]);
-    set_node(nodes, changed, first + 2, made[2]);
-    set_node(nodes, changed, first + 1, made[1]);
-    set_node(nodes, changed, first, made[0]);
-}
-
-/// Makes each of the nodes from `first` to before `end` new that is above a changed one, from the last one on.
-fn renew_each(
-    nodes: &mut [[u8; 32]; NODES],
-    changed: &mut [bool; NODES],
-    first: usize,
-    end: usize,
-)
-    requires some { 0 < first }
-    requires rising { first ≤ end }
-    requires few { end ≤ GROUP_PAGES }
-    ensures { (before : List (List ℕ)) → IsRenewed before nodes.old changed.old end → IsRenewed before nodes.new changed.new first }
-{
-    for node in (first..end).rev() {
-        if is_above_change(changed, node) {
-            let digest = inner_digest(&nodes[2 * node], &nodes[2 * node + 1]);
-            set_node(nodes, changed, node, digest);
-        }
-    }
-}
-
-/// Makes four neighbours new where they are above a changed node.
-fn renew_quarter(nodes: &mut [[u8; 32]; NODES], changed: &mut [bool; NODES], first: usize)
-    requires low { 4 ≤ first }
-    requires high { first ≤ 12 }
-    ensures { (before : List (List ℕ)) → IsRenewed before nodes.old changed.old (first + 4) → IsRenewed before nodes.new changed.new first }
-{
-    if changes_below(changed, first) < 2 {
-        renew_each(nodes, changed, first, first + 4);
-    } else {
-        renew_four(nodes, changed, first);
-    }
-}
-
 /// Makes each inner node new that is above a changed one.
 fn renew_above(nodes: &mut [[u8; 32]; NODES], changed: &mut [bool; NODES])
     requires { (k : ℕ) → 0 < k → k < GROUP_PAGES → IsAboveSame nodes.old changed.old k }
     ensures tree { IsTree nodes.new }
     ensures leaves { leaves nodes.new ≡ leaves nodes.old }
 {
-    renew_quarter(nodes, changed, 12);
-    renew_quarter(nodes, changed, 8);
-    renew_quarter(nodes, changed, 4);
-    renew_each(nodes, changed, 1, 4);
+    for node in (1..GROUP_PAGES).rev() {
+        if changed[2 * node] || changed[2 * node + 1] {
+            nodes[node] = inner_digest(&nodes[2 * node], &nodes[2 * node + 1]);
+            changed[node] = true;
+        }
+    }
 }
 
 /// Whether these are the leaves.

@@ -10,7 +10,6 @@ ghost use Rattle.pages.specs.Group.{page_at, IsEditAt};
 ghost use Rattle.pages.specs.Known.{IsStill, AreStill};
 ghost use Rattle.pages.specs.declared.group.TheConstants.{GROUP_PAGES};
 
-use crate::ahead::hash_ahead;
 use crate::layout::Layout;
 use crate::page::Page;
 use crate::page_set::PageSet;
@@ -61,7 +60,6 @@ pub(crate) fn seal_all(pages: &mut Vec<Page>, layout: Layout) -> Result<(), Allo
     ensures ok { OnOk result (pages.new.items ≡ map_list (sealed_in layout) pages.old.items) }
     ensures count { length pages.new.items ≡ length pages.old.items }
 {
-    hash_ahead(pages);
     for page in pages.iter_mut() {
         page.seal(layout)?;
     }

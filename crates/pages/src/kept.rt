@@ -18,7 +18,6 @@ use crate::sorted_page::SortedPage;
 use base::Entry;
 use item_tree::ItemTree;
 use items::{Item, Store};
-use merkle::ForkHasher;
 use proto::Key;
 use std::alloc::{AllocError, Global};
 use wire::{Record, Sink};
@@ -148,16 +147,6 @@ impl Kept {
             Kept::Tree(tree) => {
                 tree.seal();
             }
-        }
-    }
-
-    /// Keeps the digests inside that the hasher knows, and asks it for those that can be made next. Sorted items have none.
-    pub(crate) fn hash_ahead(&mut self, hasher: &mut ForkHasher)
-        ensures { self.new ≡ self.old }
-    {
-        match self {
-            Kept::Sorted(_) => {}
-            Kept::Tree(tree) => tree.hash_ahead(hasher),
         }
     }
 

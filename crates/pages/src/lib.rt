@@ -17,7 +17,6 @@
 //! that commands update.
 #![tactic(auto)]
 
-mod ahead;
 mod branch;
 mod group;
 mod grouped_pages;
@@ -36,7 +35,6 @@ mod snapshot;
 mod sorted_page;
 mod tree;
 
-pub use ahead::hash_ahead;
 pub use laws::{parts_are_joined_again, steps_are_on_one_page, steps_leave_other_pages};
 pub use layout::Layout;
 pub use number::page_of;

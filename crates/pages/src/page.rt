@@ -20,7 +20,6 @@ use crate::tree::Tree;
 use base::Entry;
 use item_tree::{ItemTree, are_same};
 use items::{Item, PlainStore, Store};
-use merkle::ForkHasher;
 use proto::Key;
 use std::alloc::{AllocError, Global};
 use std::marker::Model;
@@ -251,25 +250,6 @@ impl Page {
         if !self.sealed {
             self.kept.refresh();
             self.sealed = true;
-        }
-    }
-
-    /// Its allocator.
-    pub(crate) fn allocator(&self) -> Global {
-        self.alloc
-    }
-
-    /// Whether its digest is to be made.
-    pub(crate) fn is_written(&self) -> bool {
-        !self.sealed
-    }
-
-    /// Keeps the digests inside that the hasher knows, if the page was written, and asks it for those that can be made next.
-    pub(crate) fn hash_ahead(&mut self, hasher: &mut ForkHasher)
-        ensures { self.new ≡ self.old }
-    {
-        if self.is_written() {
-            self.kept.hash_ahead(hasher);
         }
     }
 

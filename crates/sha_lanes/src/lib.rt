@@ -2,8 +2,7 @@
 //! four take about the time of one.
 //!
 //! It is built on `std::simd` and on `sha2`, which makes the digests of texts that differ in their number
-//! of blocks. The layer above uses `digest4`: each digest is the `sha256` of `sha2` of its text; and `node_digest4`, the
-//! same of nodes of a hash tree.
+//! of blocks. The layer above uses `digest4`: each digest is the `sha256` of `sha2` of its text.
 #![tactic(auto)]
 
 ghost use Rattle.std.specs.Prelude.{◌≡◌, ℕ, ◌<◌, [], ◌∷◌, length};
@@ -13,12 +12,10 @@ ghost use Rattle.sha_lanes.specs.Lanes.{block_count, state_in};
 mod compress;
 mod constants;
 mod message;
-mod node;
 mod rounds;
 
 use constants::INITIAL_HASH;
 use message::{absorb, block_count, digest_of, tail_of};
-pub use node::{Pair, node_digest4};
 use sha2::{Digest, Sha256};
 use std::simd::u32x4;
 

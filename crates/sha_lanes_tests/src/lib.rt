@@ -4,6 +4,4 @@
 #[cfg(test)]
 mod of_lengths;
 #[cfg(test)]
-mod of_nodes;
-#[cfg(test)]
 mod of_rows;

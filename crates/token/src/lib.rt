@@ -28,7 +28,7 @@ pub use long_reply::MOST_SHORT_BYTES;
 pub use merged::merged_digest;
 pub use reply_digests::ReplyDigests;
 pub use told::{told_digest, told_digest_of};
-pub use tree::{HEIGHT, OLD_HEIGHT, OLD_PAGES, PAGES, inner_digest, inner_digest4, root};
+pub use tree::{HEIGHT, OLD_HEIGHT, OLD_PAGES, PAGES, inner_digest, root};
 use wire::{TokenText, digest};
 
 /// The digest by which a state is known: SHA-256 (FIPS 180-4) of a token's text, 32 bytes.

@@ -1,8 +1,7 @@
-ghost use Rattle.std.specs.Prelude.{◌≡◌, ◌^◌, [], ◌∷◌, ◌++◌, length};
+ghost use Rattle.std.specs.Prelude.{◌≡◌, ◌^◌, [], ◌∷◌, length};
 ghost use Rattle.wire.specs.Token.{inner_text};
 ghost use Rattle.token.specs.Digest.{digest as digest_of, levels, root_of};
 
-use sha_lanes::{Pair, node_digest4};
 use wire::{InnerText, digest};
 
 /// How many levels the root is above the digests of the pages.
@@ -17,11 +16,6 @@ pub const OLD_HEIGHT: u32 = 6;
 /// The pages of the old form, each of them four of today's.
 pub const OLD_PAGES: usize = 64;
 
-/// The inner text of two digests is a mark and both. It does nothing.
-fn has_inner_text(pair: &Pair)
-    ensures { inner_text (record { left = pair.now.left; right = pair.now.right }) ≡ 1 ∷ (pair.now.left ++ pair.now.right) }
-{}
-
 /// The digest of two neighbours in the tree of page digests: SHA-256 (FIPS 180-4) of their inner
 /// text, 32 bytes.
 #[tactic(auto, unfolding(crate::specs::Digest::digest))]
@@ -32,26 +26,6 @@ pub fn inner_digest(left: &[u8; 32], right: &[u8; 32]) -> [u8; 32]
         left: *left,
         right: *right,
     })
-}
-
-/// The digests of four pairs of neighbours, each as `inner_digest` makes it, in less than half of the time.
-#[tactic(auto, unfolding(crate::specs::Digest::digest))]
-pub fn inner_digest4(
-    first: &Pair,
-    second: &Pair,
-    third: &Pair,
-    fourth: &Pair,
-) -> [[u8; 32]; 4]
-    ensures { result ≡ digest_of (inner_text (record { left = first.now.left; right = first.now.right }))
-        ∷ digest_of (inner_text (record { left = second.now.left; right = second.now.right }))
-        ∷ digest_of (inner_text (record { left = third.now.left; right = third.now.right }))
-        ∷ digest_of (inner_text (record { left = fourth.now.left; right = fourth.now.right })) ∷ [] }
-{
-    has_inner_text(first);
-    has_inner_text(second);
-    has_inner_text(third);
-    has_inner_text(fourth);
-    node_digest4(1, first, second, third, fourth)
 }
 
 /// The one digest of the last level of a tree of this height, over as many digests as it has leaves.

@@ -8,7 +8,7 @@ ghost use Rattle.pages.specs.Page.{refreshed};
 ghost use Rattle.workers.specs.InOrder.{AreRefreshed};
 
 use crate::workers::Workers;
-use pages::{Page, hash_ahead};
+use pages::Page;
 use std::alloc::Global;
 use std::thread;
 use std::thread::Threads;
@@ -53,7 +53,6 @@ fn refresh_each<R: Threads + Sync>(rt: &R, pages: &mut [Page])
 fn refresh_in_turn<R: Threads + Sync>(rt: &R, pages: &mut [Page])
     ensures { pages.new ≡ map refreshed pages.old }
 {
-    hash_ahead(pages);
     refresh_each(rt, pages);
 }
 
