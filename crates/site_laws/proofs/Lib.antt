@@ -8,3 +8,5 @@ pub mod Unopened
 pub mod Deeds
 pub mod Shown
 pub mod Whole
+pub mod Own
+pub mod LifeLemmas
