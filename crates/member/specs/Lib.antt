@@ -1,5 +1,6 @@
 pub mod ShownLog
 pub mod Member
+pub mod Recording
 pub mod Asking
 pub mod Passing
 pub mod Tending

@@ -1,8 +1,8 @@
-//! The law of members.
+//! The laws of members.
 
-ghost use Rattle.member.specs.Laws.{MembersAreOneEnsemble};
+ghost use Rattle.member.specs.Laws.{MembersAreOneEnsemble, MembersOfLivesAreOneEnsemble};
 
-use site_laws::a_site_is_an_ensemble;
+use site_laws::{a_life_leads_to_the_next, a_site_is_an_ensemble};
 use std::alloc::Global;
 
 /// Whatever the members of a site did, each by itself: in any order of what they show in which each letter went out before
@@ -12,4 +12,15 @@ pub fn members_are_a_site(alloc: Global)
     ensures { MembersAreOneEnsemble }
 {
     a_site_is_an_ensemble(alloc);
+    a_life_leads_to_the_next();
+}
+
+/// The same of members whose processes end, and begin again with what was kept: of a process that ended counts what it had
+/// shown when that was kept which the next one found. So a letter may come in only if it had gone out by then. The call does
+/// nothing; texts of requests are kept in the memory of `alloc`.
+pub fn members_of_lives_are_a_site(alloc: Global)
+    ensures { MembersOfLivesAreOneEnsemble }
+{
+    a_site_is_an_ensemble(alloc);
+    a_life_leads_to_the_next();
 }

@@ -2,6 +2,7 @@
 
 ghost use Rattle.std.specs.Prelude.{◌≡◌, ◌≤◌, ◌<◌, ◌-◌, ◌^◌};
 
+use crate::found_log::FoundLog;
 use crate::shown_log::ShownLog;
 use decrees::{Letter, Node};
 use ensemble::{Config, Nodes, Replica};
@@ -15,6 +16,7 @@ use std::marker::Model;
 pub struct Member {
     pub(crate) id: u8,
     pub(crate) config: Config,
+    pub(crate) found: FoundLog,
     /// All nodes of the site. Those of other members were never opened, and are not touched.
     pub(crate) nodes: Nodes,
     /// Letters to other members, until they leave.
@@ -31,15 +33,16 @@ impl Model for Member {
     ghost use Rattle.events.specs.contracts.config.Config as of_config;
     ghost use Rattle.ensemble.specs.contracts.nodes.Nodes as of_nodes;
     ghost use Rattle.member.specs.contracts.shown_log.ShownLog as of_log;
+    ghost use Rattle.member.specs.contracts.found_log.FoundLog as of_found;
     ghost use Rattle.member.specs.Member.{MemberView, HasDone, with_leaving, block_of, member_code};
 
     ghost Value = { MemberView };
 
-    ghost coded = { member_code of_config.the_row.coded of_nodes.the_row.coded (of_letter.the_row of_body.the_row).coded of_log.the_row.coded };
+    ghost coded = { member_code of_config.the_row.coded of_found.the_row.coded of_nodes.the_row.coded (of_letter.the_row of_body.the_row).coded of_log.the_row.coded };
 
-    ghost view = { λ m. record { id = m.id; config = m.config; nodes = m.nodes; leaving = m.leaving.items; shown = m.log; refused = m.refused } };
+    ghost view = { λ m. record { id = m.id; config = m.config; found = m.found; nodes = m.nodes; leaving = m.leaving.items; shown = m.log; refused = m.refused } };
 
-    ghost invariant = { λ m. HasDone m.id m.config (with_leaving m.leaving.items m.nodes) m.log × (0 < block_of m.config) };
+    ghost invariant = { λ m. HasDone m.id m.config m.found (with_leaving m.leaving.items m.nodes) m.log × (0 < block_of m.config) };
 }
 
 /// Counts that something was refused, up to 2^64 - 1.
@@ -148,17 +151,19 @@ impl Member {
         refuse(&mut self.refused);
     }
 
-    /// Ends its nodes.
+    /// Ends its nodes, and with them its process: `record` says what is kept of it then.
     pub fn end(self) {
         let Member {
             id: _,
             config: _,
+            found,
             nodes,
             leaving,
             log,
             refused: _,
         } = self;
         nodes.end();
+        drop(found);
         drop(leaving);
         drop(log);
     }

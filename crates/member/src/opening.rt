@@ -1,11 +1,12 @@
 //! A member before the first letter.
 
-ghost use Rattle.std.specs.Prelude.{◌≡◌, ◌↔◌, [], IfOk, IfErr, Err, replicate, IsTrue};
+ghost use Rattle.std.specs.Prelude.{◌≡◌, ◌↔◌, [], None, IfOk, IfErr, Err, replicate, IsTrue};
 ghost use Rattle.worlds.specs.declared.slot.Slot.TheVariants.{Down};
 ghost use Rattle.worlds.specs.World.{nothing_kept};
 ghost use Rattle.site_laws.specs.Site.{unopened_nodes as not_opened};
 ghost use Rattle.member.specs.Member.{HasPlace};
 
+use crate::found_log::FoundLog;
 use crate::member::Member;
 use crate::shown_log::ShownLog;
 use ensemble::{Config, Nodes, Replica, first_proxies};
@@ -16,7 +17,7 @@ use std::collections::VecDeque;
 use worlds::VerifierSlot;
 
 /// So many executors that were never opened. Room is taken first, since they cannot be dropped.
-fn unopened_executors(alloc: Global, count: u8) -> Result<Vec<ExecutorHost>, AllocError>
+pub(crate) fn unopened_executors(alloc: Global, count: u8) -> Result<Vec<ExecutorHost>, AllocError>
     ensures { IfOk result (λ hosts. hosts.items ≡ replicate count (record { slot = Down nothing_kept; held = []; sent = [] })) }
 {
     let mut hosts = Vec::with_capacity(alloc, usize::from(count))?;
@@ -27,7 +28,7 @@ fn unopened_executors(alloc: Global, count: u8) -> Result<Vec<ExecutorHost>, All
 }
 
 /// So many verifiers that were never opened.
-fn unopened_verifiers(alloc: Global, count: u8) -> Result<Vec<VerifierSlot>, AllocError>
+pub(crate) fn unopened_verifiers(alloc: Global, count: u8) -> Result<Vec<VerifierSlot>, AllocError>
     ensures { IfOk result (λ slots. slots.items ≡ replicate count (Down nothing_kept)) }
 {
     let mut slots = Vec::with_capacity(alloc, usize::from(count))?;
@@ -55,7 +56,7 @@ fn unopened_nodes(alloc: Global, config: &Config) -> Result<Nodes, AllocError>
 }
 
 /// Whether the site has a member of this number, and a proxy for each member.
-fn has_place(config: &Config, id: u8) -> bool
+pub(crate) fn has_place(config: &Config, id: u8) -> bool
     ensures yes { IsTrue result → HasPlace config.now id }
     ensures no { HasPlace config.now id → IsTrue result }
 {
@@ -66,12 +67,13 @@ fn has_place(config: &Config, id: u8) -> bool
 /// The member of a site of which nothing was opened.
 fn unopened(alloc: Global, config: &Config, id: u8) -> Result<Member, AllocError>
     requires { HasPlace config.now id }
-    ensures { IfOk result (λ member. member ≡ record { id = id; config = config.now; nodes = not_opened config.now; leaving = []; shown = []; refused = 0 }) }
+    ensures { IfOk result (λ member. member ≡ record { id = id; config = config.now; found = None; nodes = not_opened config.now; leaving = []; shown = []; refused = 0 }) }
 {
     let nodes = unopened_nodes(alloc, config)?;
     Ok(Member {
         id,
         config: *config,
+        found: FoundLog::none(),
         nodes,
         leaving: VecDeque::new(alloc),
         log: ShownLog::new(),
@@ -80,7 +82,7 @@ fn unopened(alloc: Global, config: &Config, id: u8) -> Result<Member, AllocError
 }
 
 impl Member {
-    ghost use Rattle.std.specs.Prelude.{◌≡◌, ◌↔◌, ◌⊎◌, ◌<◌, ◌≤◌, ◌-◌, ◌^◌, [], true, IfOk, IfErr, Err};
+    ghost use Rattle.std.specs.Prelude.{◌≡◌, ◌↔◌, ◌⊎◌, ◌<◌, ◌≤◌, ◌-◌, ◌^◌, [], true, None, IfOk, IfErr, Err};
     ghost use Rattle.ensemble.specs.Shown.{is_up_at};
     ghost use Rattle.member.specs.Member.{whose, HasPlace};
     ghost use Rattle.member.specs.Tending.{AreBothUp};
@@ -97,7 +99,7 @@ impl Member {
     }
 
     /// Opens its executor and its verifier. Each of them that is down then is counted.
-    fn begin(&mut self, alloc: Global)
+    pub(crate) fn begin(&mut self, alloc: Global)
         ensures whose { whose self.new ≡ whose self.old }
         ensures shown { self.new.shown ≡ self.old.shown }
         ensures leaving { self.new.leaving ≡ self.old.leaving }
@@ -114,7 +116,7 @@ impl Member {
     ///
     /// Unfit: the site has no member of this number, or there are fewer proxies than members; NoMemory: an allocation failed.
     pub fn open(alloc: Global, config: &Config, id: u8) -> Result<Member, Fault>
-        ensures whose { IfOk result (λ member. whose member ≡ (id, config.now)) }
+        ensures whose { IfOk result (λ member. whose member ≡ (id, config.now, None)) }
         ensures shown { IfOk result (λ member. member.shown ≡ []) }
         ensures leaving { IfOk result (λ member. member.leaving ≡ []) }
         ensures up { IfOk result (λ member. member.refused ≡ 0 → AreBothUp member) }

@@ -73,7 +73,7 @@ leads_to_next c home m found deeds saved kept did is =
 
 -- ---- what is shown
 
-shows_both : (xs ys : List Deed) → shows shown_by (xs ++ ys) ≡ shows shown_by xs ++ shows shown_by ys
+pub shows_both : (xs ys : List Deed) → shows shown_by (xs ++ ys) ≡ shows shown_by xs ++ shows shown_by ys
 shows_both [] ys = refl
 shows_both (x ∷ xs) ys = ap (λ (vs : List Shown). entry_of shown_by (shown_by x) ++ vs) (shows_both xs ys) ∙ sym (append_assoc (entry_of shown_by (shown_by x)) (shows shown_by xs) (shows shown_by ys))
 

@@ -10,7 +10,7 @@ use Rattle.member.proofs.member.Member.deliver.Goals as goal
 pub invariant_of-self : goal.invariant_of-self
 invariant_of-self c =
     let s = c.self.inside in
-    let old : MemberView = record { id = s.id; config = s.config; nodes = s.nodes; leaving = s.leaving.items; shown = s.log; refused = s.refused } in
+    let old : MemberView = record { id = s.id; config = s.config; found = s.found; nodes = s.nodes; leaving = s.leaving.items; shown = s.log; refused = s.refused } in
     let first : IsFirstHere old = subst IsFirstHere (sym c.self.view_is) c.requires in (
       took s.id s.config s.leaving.items s.nodes c.deliver.new.self s.log c.self.invariant.0 first.letter c.deliver.result s.log first.first first.here c.deliver.ensures.delivers
           (sym (append-nil s.log) ∙ ap (λ (a : Option Answer). s.log ++ answer_shown a) (sym c.in_err-answer.was)),
@@ -20,7 +20,7 @@ invariant_of-self c =
 pub invariant_of-self-2 : goal.invariant_of-self-2
 invariant_of-self-2 c =
     let s = c.self.inside in
-    let old : MemberView = record { id = s.id; config = s.config; nodes = s.nodes; leaving = s.leaving.items; shown = s.log; refused = s.refused } in
+    let old : MemberView = record { id = s.id; config = s.config; found = s.found; nodes = s.nodes; leaving = s.leaving.items; shown = s.log; refused = s.refused } in
     let first : IsFirstHere old = subst IsFirstHere (sym c.self.view_is) c.requires in (
       took s.id s.config s.leaving.items s.nodes c.deliver.new.self s.log c.self.invariant.0 first.letter c.deliver.result c.answered.new.self first.first first.here c.deliver.ensures.delivers
           (c.answered.ensures.shown ∙ ap (λ (a : Option Answer). s.log ++ answer_shown a) (sym c.in_ok-answer.was)),

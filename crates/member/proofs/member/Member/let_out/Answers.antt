@@ -10,7 +10,7 @@ invariant_of-self-2 c =
     let s = c.self.inside in
     let rest = c.pop_front.new.self.items in (
       went_out s.id s.config c.in_ok-letter.letter rest s.nodes s.log c.went_out.new.self
-          (subst (λ (ls : List (Letter Body)). HasDone s.id s.config (with_leaving ls s.nodes) s.log) c.in_ok-letter.ensures.items c.self.invariant.0)
+          (subst (λ (ls : List (Letter Body)). HasDone s.id s.config s.found (with_leaving ls s.nodes) s.log) c.in_ok-letter.ensures.items c.self.invariant.0)
           c.went_out.ensures.shown,
       c.self.invariant.1,
     )

@@ -9,7 +9,7 @@ use Rattle.member.proofs.member.Member.set_aside.Goals as goal
 pub invariant_of-self : goal.invariant_of-self
 invariant_of-self c =
     let s = c.self.inside in
-    (subst (λ (ls : List (Letter Body)). HasDone s.id s.config (with_leaving ls s.nodes) s.log) (sym c.reserve.ensures.items) c.self.invariant.0, c.self.invariant.1)
+    (subst (λ (ls : List (Letter Body)). HasDone s.id s.config s.found (with_leaving ls s.nodes) s.log) (sym c.reserve.ensures.items) c.self.invariant.0, c.self.invariant.1)
 
 pub invariant_of-self-in-Some : goal.invariant_of-self-in-Some
 invariant_of-self-in-Some c =
@@ -24,4 +24,4 @@ pub invariant_of-self-in-None : goal.invariant_of-self-in-None
 invariant_of-self-in-None c =
     let s = c.self.inside in
     let same : c.take_first.new.nodes ≡ s.nodes = c.in-None.ensures.none refl in
-    (subst (λ (p : List (Letter Body) × NodesView). HasDone s.id s.config (with_leaving p.0 p.1) s.log) (λ i. (sym c.reserve.ensures.items i, sym same i)) c.self.invariant.0, c.self.invariant.1)
+    (subst (λ (p : List (Letter Body) × NodesView). HasDone s.id s.config s.found (with_leaving p.0 p.1) s.log) (λ i. (sym c.reserve.ensures.items i, sym same i)) c.self.invariant.0, c.self.invariant.1)

@@ -1,0 +1,108 @@
+//! What is kept of a member.
+
+use base::Text;
+use exec_lines::ExecutorRecord;
+use keeper::MemKeeper;
+use proxies::Proxy;
+use std::marker::Model;
+
+/// What is kept of a member when its process ends, of one moment: what the keepers of its executor and its verifier have,
+/// and what each proxy asked last. Another process of the member goes on from it.
+pub struct MemberRecord {
+    pub(crate) id: u8,
+    pub(crate) u: u8,
+    pub(crate) executor: MemKeeper<ExecutorRecord>,
+    pub(crate) verifier: MemKeeper<Text>,
+    pub(crate) proxies: Vec<Proxy>,
+}
+
+impl Drop for MemberRecord {
+    fn drop(self) {
+        let MemberRecord {
+            id: _,
+            u: _,
+            executor: _,
+            verifier: _,
+            proxies: _,
+        } = self;
+    }
+}
+
+impl Model for MemberRecord {
+    ghost use Rattle.std.specs.Prelude.{◌<◌};
+    ghost use Rattle.proxies.specs.contracts.proxy.Proxy as proxy;
+    ghost use Rattle.ensemble.specs.Nodes.{AreNumbered};
+    ghost use Rattle.site_laws.specs.Lives.{MemberKept, member_kept_code};
+
+    ghost Value = { MemberKept };
+
+    ghost coded = { member_kept_code proxy.the_row.coded };
+
+    ghost view = { λ r. record { id = r.id; u = r.u; executor = r.executor; verifier = r.verifier; proxies = r.proxies.items } };
+
+    ghost invariant = { λ r. (r.u < 4) × AreNumbered r.proxies.items };
+}
+
+impl MemberRecord {
+    ghost use Rattle.std.specs.Prelude.{◌≡◌, ◌<◌};
+    ghost use Rattle.ensemble.specs.Nodes.{AreNumbered};
+
+    /// The record of member `id` of a site of `2u + 1` members, which these keepers are of, and of the proxies of all
+    /// members, which are numbered from 1.
+    pub fn of(
+        id: u8,
+        u: u8,
+        executor: MemKeeper<ExecutorRecord>,
+        verifier: MemKeeper<Text>,
+        proxies: Vec<Proxy>,
+    ) -> MemberRecord
+        requires few { u < 4 }
+        requires numbered { AreNumbered proxies.items }
+        ensures { result ≡ record { id = id; u = u; executor = executor; verifier = verifier; proxies = proxies.items } }
+    {
+        MemberRecord {
+            id,
+            u,
+            executor,
+            verifier,
+            proxies,
+        }
+    }
+
+    /// The number of the member.
+    pub fn id(&self) -> u8
+        ensures { result ≡ self.now.id }
+    {
+        self.id
+    }
+
+    /// How many of the `2u + 1` members may fail.
+    pub fn u(&self) -> u8
+        ensures u { result ≡ self.now.u }
+        ensures few { result < 4 }
+    {
+        self.u
+    }
+
+    /// What the keeper of the executor has.
+    pub fn executor(&self) -> &MemKeeper<ExecutorRecord>
+        ensures { result.now ≡ self.now.executor }
+    {
+        &self.executor
+    }
+
+    /// What the keeper of the verifier has.
+    pub fn verifier(&self) -> &MemKeeper<Text>
+        ensures { result.now ≡ self.now.verifier }
+    {
+        &self.verifier
+    }
+
+    /// The proxies of all members, by their numbers. Those of other members have asked nothing.
+    pub fn proxies(&self) -> &[Proxy]
+        ensures proxies { result.now ≡ self.now.proxies }
+        ensures numbered { AreNumbered self.now.proxies }
+    {
+        self.proxies.as_slice()
+    }
+}
