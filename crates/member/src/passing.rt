@@ -118,7 +118,8 @@ impl Member {
     }
 
     /// All letters to other members that `work` left: they are to be handed to these members. Each that is handed out went
-    /// out of this member, whether it arrives or not. NoMemory: nothing has changed.
+    /// out of this member, whether it arrives or not. If another process is to go on from what is kept of this one, they may
+    /// leave only when a record (`record`) of this moment, or of a later one, was saved. NoMemory: nothing has changed.
     pub fn prepare(&mut self, alloc: Global) -> Result<Vec<Letter<Body>>, AllocError>
         ensures letters { IfOk result (λ letters. letters.items ≡ self.old.leaving) }
         ensures none { OnOk result (self.new.leaving ≡ []) }

@@ -1,10 +1,10 @@
 //! What is kept of a member when its process ends, and the member of a process that begins with it.
 
-ghost use Rattle.std.specs.Prelude.{◌≡◌, ◌⊎◌, [], Some, IfOk, IfErr, IsTrue};
-ghost use Rattle.ensemble.specs.Nodes.{AtHost, AtVerifier};
+ghost use Rattle.std.specs.Prelude.{◌≡◌, ◌⊎◌, [], Some, IfOk, IfErr, IsTrue, slice_set};
+ghost use Rattle.ensemble.specs.Kept.{down_host, down_verifier};
 ghost use Rattle.site_laws.specs.Lives.{KeepsExecutor, KeepsVerifier, IsKept, nodes_with};
 ghost use Rattle.member.specs.Member.{HasPlace};
-ghost use Rattle.member.specs.Recording.{HostBecomes, VerifierBecomes, MayBegin};
+ghost use Rattle.member.specs.Recording.{MayBegin};
 
 use crate::found_log::FoundLog;
 use crate::member::Member;
@@ -74,13 +74,14 @@ fn kept_of(alloc: Global, nodes: &Nodes, id: u8) -> Result<MemberRecord, Fault>
 }
 
 /// The executor of this number, if there is one, is now one that is down, with this keeper.
+#[tactic(auto, using(crate::proofs::Places::set_none))]
 fn put_executor(
     alloc: Global,
     executors: &mut Vec<ExecutorHost>,
     id: u8,
     keeper: MemKeeper<ExecutorRecord>,
 )
-    ensures { AtHost (HostBecomes keeper) id executors.old.items executors.new.items [] }
+    ensures { executors.new.items ≡ slice_set executors.old.items id (down_host keeper) }
 {
     if let Some(host) = executors.get_mut(usize::from(id)) {
         mem::replace(host, ExecutorHost::down(alloc, keeper)).end();
@@ -88,8 +89,9 @@ fn put_executor(
 }
 
 /// The verifier of this number, if there is one, is now one that is down, with this keeper.
+#[tactic(auto, using(crate::proofs::Places::set_none))]
 fn put_verifier(verifiers: &mut Vec<VerifierSlot>, id: u8, keeper: MemKeeper<Text>)
-    ensures { AtVerifier (VerifierBecomes keeper) id verifiers.old.items verifiers.new.items [] }
+    ensures { verifiers.new.items ≡ slice_set verifiers.old.items id (down_verifier keeper) }
 {
     if let Some(slot) = verifiers.get_mut(usize::from(id)) {
         *slot = VerifierSlot::down(keeper);
@@ -98,7 +100,6 @@ fn put_verifier(verifiers: &mut Vec<VerifierSlot>, id: u8, keeper: MemKeeper<Tex
 
 /// The nodes with which a process of member `id` begins that found this.
 fn begun(alloc: Global, config: &Config, id: u8, found: MemberRecord) -> Result<Nodes, AllocError>
-    requires { HasPlace config.now id }
     ensures { IfOk result (λ nodes. nodes ≡ nodes_with config.now id found) }
 {
     let MemberRecord {

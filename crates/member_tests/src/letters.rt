@@ -7,12 +7,12 @@ use std::sync::Wait;
 use std::test::Fail;
 use std::thread::Threads;
 
-const SET: &[u8] = b"set n 0 0 1\r\n5\r\n";
+pub const SET: &[u8] = b"set n 0 0 1\r\n5\r\n";
 
-const ADD: &[u8] = b"incr n 1\r\n";
+pub const ADD: &[u8] = b"incr n 1\r\n";
 
 /// Whether a site of three members answers just these, and all executors are alike then.
-fn shows<R: Threads + Wait + Sync>(
+pub fn shows<R: Threads + Wait + Sync>(
     rt: &R,
     alloc: Global,
     row: &[Done],

@@ -6,6 +6,8 @@ mod asking;
 #[cfg(test)]
 mod letters;
 #[cfg(test)]
+mod lives;
+#[cfg(test)]
 mod memory;
 #[cfg(test)]
 mod site;

@@ -4,9 +4,10 @@ use crate::asking::asked;
 use decrees::{Letter, Node};
 use ensemble::{Answer, Config};
 use exec_lines::Body;
-use member::Member;
+use member::{Member, MemberRecord};
 use proto::{Fault, Reply};
 use std::alloc::Global;
+use std::mem;
 use std::sync::Wait;
 use std::thread::Threads;
 
@@ -38,6 +39,10 @@ pub enum Done {
     Lose(u8),
     /// The verifier of this member is told that the leader is suspected.
     Suspect(u8),
+    /// What is kept of this member is recorded.
+    Record(u8),
+    /// The process of this member ends, and another one begins with what was recorded last.
+    Reopen(u8),
 }
 
 /// An answer: the proxy, the number of its request, and the number that the reply shows; 0: it shows another reply.
@@ -168,10 +173,45 @@ fn ask(alloc: Global, members: &mut Vec<Member>, proxy: u16, bytes: &[u8]) -> Re
     Ok(())
 }
 
+fn record(
+    alloc: Global,
+    members: &mut Vec<Member>,
+    id: u8,
+    kept: &mut Vec<MemberRecord>,
+) -> Result<(), Fault> {
+    let Some(member) = members.get_mut(usize::from(id)) else {
+        return Err(Fault::Unfit);
+    };
+    kept.push(member.record(alloc)?)?;
+    Ok(())
+}
+
+/// This member is there in place of the one of its number, which ends.
+fn put(members: &mut Vec<Member>, id: u8, member: Member) {
+    match members.get_mut(usize::from(id)) {
+        Some(place) => mem::replace(place, member).end(),
+        None => member.end(),
+    }
+}
+
+fn reopen(
+    alloc: Global,
+    members: &mut Vec<Member>,
+    id: u8,
+    kept: &mut Vec<MemberRecord>,
+) -> Result<(), Fault> {
+    let config = Config::new(1, ALL_PROXIES)?;
+    let found = kept.pop().ok_or(Fault::Unfit)?;
+    let member = Member::reopen(alloc, &config, id, found)?;
+    put(members, id, member);
+    Ok(())
+}
+
 fn act<R: Threads + Wait + Sync>(
     rt: &R,
     alloc: Global,
     members: &mut Vec<Member>,
+    kept: &mut Vec<MemberRecord>,
     done: Done,
     answers: &mut Vec<Shown>,
 ) -> Result<(), Fault> {
@@ -189,6 +229,8 @@ fn act<R: Threads + Wait + Sync>(
                 member.suspect(alloc);
             }
         }
+        Done::Record(id) => record(alloc, members, id, kept)?,
+        Done::Reopen(id) => reopen(alloc, members, id, kept)?,
     }
     Ok(())
 }
@@ -214,8 +256,9 @@ fn play<R: Threads + Wait + Sync>(
 ) -> Result<(Vec<Shown>, bool), Fault> {
     open_all(alloc, members)?;
     let mut answers = Vec::new(alloc);
+    let mut kept = Vec::new(alloc);
     for done in row {
-        act(rt, alloc, members, *done, &mut answers)?;
+        act(rt, alloc, members, &mut kept, *done, &mut answers)?;
     }
     Ok((answers, are_alike(members.as_slice())))
 }
