@@ -13,7 +13,7 @@ use Rattle.ensemble.specs.Nodes.{NodesView}
 use Rattle.site_laws.specs.Orders.{DoesAll, deeds_of, tagged, entry_of, shows, all_shown}
 use Rattle.site_laws.specs.Site.{Deed, Does, Shown, shown_by, unopened_nodes, IsPart, ShowsSite, SiteIsShown, all_by, asked_by, replies_by, noted_by}
 use Rattle.site_laws.specs.Site as site
-use Rattle.site_laws.specs.Lives.{MemberKept, IsKept, nodes_with, begun_nodes, ending, LifeLeadsToNext}
+use Rattle.site_laws.specs.Lives.{MemberKept, IsKeptOf, nodes_with, begun_nodes, ending, LifeLeadsToNext}
 use Rattle.site_laws.proofs.Merge.{one_after}
 use Rattle.site_laws.proofs.LifeLemmas.{shows_both}
 use Rattle.member.specs.Member.{MemberView, home_of, with_leaving, HasDone}
@@ -92,7 +92,7 @@ noted_agree m site.VerifierEnded = refl
 -- ---- processes one after the other
 
 -- what was kept does not depend on letters
-kept_besides : (m : ℕ) (leaving : List (Letter Body)) (n : NodesView) (kept : MemberKept) → IsKept m n kept → IsKept m (with_leaving leaving n) kept
+kept_besides : (m : ℕ) (leaving : List (Letter Body)) (n : NodesView) (kept : MemberKept) → IsKeptOf m n kept → IsKeptOf m (with_leaving leaving n) kept
 kept_besides m leaving n kept k = record { id = k.id; same_u = k.same_u; executor = k.executor; verifier = k.verifier; proxies = k.proxies }
 
 done_by : (c : ConfigView) (m : ℕ) (found : Option MemberKept) (v : MemberView) → IsProcessOf c m found v → HasDone m c found (with_leaving v.leaving v.nodes) v.shown

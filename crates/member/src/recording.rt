@@ -2,7 +2,7 @@
 
 ghost use Rattle.std.specs.Prelude.{◌≡◌, ◌⊎◌, [], Some, IfOk, IfErr, IsTrue, slice_set};
 ghost use Rattle.ensemble.specs.Kept.{down_host, down_verifier};
-ghost use Rattle.site_laws.specs.Lives.{KeepsExecutor, KeepsVerifier, IsKept, nodes_with};
+ghost use Rattle.site_laws.specs.Lives.{KeepsExecutor, KeepsVerifier, IsKeptOf, nodes_with};
 ghost use Rattle.member.specs.Member.{HasPlace};
 ghost use Rattle.member.specs.Recording.{MayBegin};
 
@@ -64,7 +64,7 @@ fn kept_verifier(verifiers: &[VerifierSlot], id: u8) -> Result<MemKeeper<Text>, 
 
 /// What is kept of member `id` if its process ends now. Stopped: one of its replicas is not there, or lost for good.
 fn kept_of(alloc: Global, nodes: &Nodes, id: u8) -> Result<MemberRecord, Fault>
-    ensures kept { IfOk result (λ kept. IsKept id nodes.now kept) }
+    ensures kept { IfOk result (λ kept. IsKeptOf id nodes.now kept) }
     ensures only { IfErr result (λ fault. (fault ≡ Fault.NoMemory) ⊎ (fault ≡ Fault.Stopped)) }
 {
     let executor = kept_executor(nodes.executors.as_slice(), id)?;
@@ -159,7 +159,7 @@ fn reopened(
 
 impl Member {
     ghost use Rattle.std.specs.Prelude.{◌≡◌, ◌↔◌, ◌⊎◌, [], Some, Err, IfOk, IfErr};
-    ghost use Rattle.site_laws.specs.Lives.{IsKept};
+    ghost use Rattle.site_laws.specs.Lives.{IsKeptOf};
     ghost use Rattle.member.specs.Member.{whose};
     ghost use Rattle.member.specs.Recording.{MayBegin};
     ghost use Rattle.member.specs.Tending.{AreBothUp};
@@ -173,7 +173,7 @@ impl Member {
     /// Stopped: one of its replicas is lost for good, which is the work of no call of a member; NoMemory: an allocation
     /// failed.
     pub fn record(&self, alloc: Global) -> Result<MemberRecord, Fault>
-        ensures kept { IfOk result (λ kept. IsKept self.now.id self.now.nodes kept) }
+        ensures kept { IfOk result (λ kept. IsKeptOf self.now.id self.now.nodes kept) }
         ensures only { IfErr result (λ fault. (fault ≡ Fault.NoMemory) ⊎ (fault ≡ Fault.Stopped)) }
     {
         kept_of(alloc, &self.nodes, self.id)

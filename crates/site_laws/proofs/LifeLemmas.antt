@@ -16,7 +16,7 @@ use Rattle.ensemble.specs.Calls.{VerifierCrashes}
 use Rattle.ensemble.proofs.Lists.{set_twice, in_none}
 use Rattle.site_laws.specs.Orders.{deeds_of, DoesAll, entry_of, shows}
 use Rattle.site_laws.specs.Site.{Deed, HostEnds, Does, Shown, shown_by, unopened_nodes}
-use Rattle.site_laws.specs.Lives.{MemberKept, IsKept, nodes_with, begun_nodes, ending, Life, deeds_in, shown_in, AreLives, LifeLeadsToNext, SiteOfLivesIsEnsemble, SiteOfLivesIsShown}
+use Rattle.site_laws.specs.Lives.{MemberKept, IsKeptOf, nodes_with, begun_nodes, ending, Life, deeds_in, shown_in_lives, AreLives, LifeLeadsToNext, SiteOfLivesIsEnsemble, SiteOfLivesIsShown}
 use Rattle.site_laws.proofs.Merge.{one_after}
 use Rattle.site_laws.proofs.Own.{OwnOnly, own_begun, own_all}
 use Rattle.site_laws.proofs.Whole.{site_is_ensemble, site_is_shown}
@@ -38,7 +38,7 @@ verifier_ends v kept here has = (ap down_verifier has ∙ sym (is_down verifier_
 
 module _ (c : ConfigView) (home : ℕ → ℕ) (m : ℕ) where
   -- the end of a process leads to where the next one begins
-  ends : (n : NodesView) (kept : MemberKept) → OwnOnly c m n → IsKept m n kept → DoesAll (Does home) m n ending (nodes_with c m kept)
+  ends : (n : NodesView) (kept : MemberKept) → OwnOnly c m n → IsKeptOf m n kept → DoesAll (Does home) m n ending (nodes_with c m kept)
   ends n kept o k =
       let host : HostView = down_host kept.executor in
       let slot : Slot VerifierView = down_verifier kept.verifier in
@@ -56,7 +56,7 @@ module _ (c : ConfigView) (home : ℕ → ℕ) (m : ℕ) where
       let same : nodes_with c m kept ≡ both_down = λ i. record { u = sym o.same_u i; proxies = k.proxies i; executors = same_hosts i; verifiers = same_slots i; mail = [] } in
       (silent, ([], (λ l x. absurd (in_none l x)), refl), (one_down, executor, (both_down, verifier, same)))
 
-  pub ended : (found : Option MemberKept) (n : NodesView) (deeds : List Deed) (kept : MemberKept) → DoesAll (Does home) m (begun_nodes c m found) deeds n → IsKept m n kept → DoesAll (Does home) m n ending (nodes_with c m kept)
+  pub ended : (found : Option MemberKept) (n : NodesView) (deeds : List Deed) (kept : MemberKept) → DoesAll (Does home) m (begun_nodes c m found) deeds n → IsKeptOf m n kept → DoesAll (Does home) m n ending (nodes_with c m kept)
   ended found n deeds kept did k = ends n kept (own_all home c m (begun_nodes c m found) n deeds did (own_begun c m found)) k
 
   -- ---- one life after the other
@@ -78,7 +78,7 @@ shows_both [] ys = refl
 shows_both (x ∷ xs) ys = ap (λ (vs : List Shown). entry_of shown_by (shown_by x) ++ vs) (shows_both xs ys) ∙ sym (append_assoc (entry_of shown_by (shown_by x)) (shows shown_by xs) (shows shown_by ys))
 
 -- the end of a process shows nothing
-shows_in : (lives : List Life) (deeds : List Deed) → shows shown_by (deeds_in lives deeds) ≡ shown_in lives deeds
+shows_in : (lives : List Life) (deeds : List Deed) → shows shown_by (deeds_in lives deeds) ≡ shown_in_lives lives deeds
 shows_in [] deeds = refl
 shows_in (life ∷ lives) deeds = shows_both life.deeds (ending ++ deeds_in lives deeds) ∙ ap (λ (vs : List Shown). shows shown_by life.deeds ++ vs) (shows_in lives deeds)
 

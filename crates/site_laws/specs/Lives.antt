@@ -56,7 +56,7 @@ pub record KeepsVerifier (verifiers : List (Slot VerifierView)) (id : ℕ) (kept
   pub has : kept ≡ kept_of_verifier slot
 
 -- This is kept of member m if its process ends when its nodes are these.
-pub record IsKept (m : ℕ) (n : NodesView) (kept : MemberKept) : Type 0 where
+pub record IsKeptOf (m : ℕ) (n : NodesView) (kept : MemberKept) : Type 0 where
   pub id : kept.id ≡ m
   pub same_u : kept.u ≡ n.u
   pub executor : KeepsExecutor n.executors m kept.executor
@@ -100,23 +100,23 @@ deeds_in [] deeds = deeds
 deeds_in (life ∷ lives) deeds = life.deeds ++ (ending ++ deeds_in lives deeds)
 
 -- what is shown of that
-abbrev pub shown_in : List Life → List Deed → List Shown
-shown_in [] deeds = shows shown_by deeds
-shown_in (life ∷ lives) deeds = shows shown_by life.deeds ++ shown_in lives deeds
+abbrev pub shown_in_lives : List Life → List Deed → List Shown
+shown_in_lives [] deeds = shows shown_by deeds
+shown_in_lives (life ∷ lives) deeds = shows shown_by life.deeds ++ shown_in_lives lives deeds
 
 module _ (c : ConfigView) (home : ℕ → ℕ) (m : ℕ) where
   -- The first of these processes of member m began with what was found, each other one with what was kept of the one before. The last did these deeds so far, which led it to these nodes.
   abbrev pub AreLives : Option MemberKept → List Life → List Deed → NodesView → Type 0
   AreLives found [] deeds now = DoesAll (Does home) m (begun_nodes c m found) deeds now
   AreLives found (life ∷ lives) deeds now =
-      DoesAll (Does home) m (begun_nodes c m found) life.deeds life.saved × IsKept m life.saved life.kept × AreLives (Some life.kept) lives deeds now
+      DoesAll (Does home) m (begun_nodes c m found) life.deeds life.saved × IsKeptOf m life.saved life.kept × AreLives (Some life.kept) lives deeds now
 
 -- ---- laws
 
 -- A process that ended after these deeds, with the end itself, led the member to just where the next process begins.
 abbrev pub LifeLeadsToNext : Type 0
 LifeLeadsToNext = (c : ConfigView) (home : ℕ → ℕ) (m : ℕ) (found : Option MemberKept) (deeds : List Deed) (saved : NodesView) (kept : MemberKept)
-    → DoesAll (Does home) m (begun_nodes c m found) deeds saved → IsKept m saved kept → DoesAll (Does home) m (begun_nodes c m found) (deeds ++ ending) (nodes_with c m kept)
+    → DoesAll (Does home) m (begun_nodes c m found) deeds saved → IsKeptOf m saved kept → DoesAll (Does home) m (begun_nodes c m found) (deeds ++ ending) (nodes_with c m kept)
 
 -- The law of a site whose members have lives. In whatever order all these deeds were done, if each letter left before it came, the members are parts of one ensemble. A letter that left after the save that was found is in no list: so it may not have come to anyone.
 abbrev pub SiteOfLivesIsEnsemble : Type 0
@@ -127,5 +127,5 @@ SiteOfLivesIsEnsemble = (c : ConfigView) (home : ℕ → ℕ) (order : List (ℕ
 -- The same of what is shown alone. Members are numbered below `count`.
 abbrev pub SiteOfLivesIsShown : Type 0
 SiteOfLivesIsShown = (c : ConfigView) (home : ℕ → ℕ) (count : ℕ) (order : List (ℕ × Shown)) (lives : ℕ → List Life) (deeds : ℕ → List Deed) (now : ℕ → NodesView)
-    → ((m : ℕ) → AreLives c home m None (lives m) (deeds m) (now m)) → ((m : ℕ) → shown_in (lives m) (deeds m) ≡ deeds_of m order) → ((m : ℕ) → count ≤ m → deeds_in (lives m) (deeds m) ≡ [])
+    → ((m : ℕ) → AreLives c home m None (lives m) (deeds m) (now m)) → ((m : ℕ) → shown_in_lives (lives m) (deeds m) ≡ deeds_of m order) → ((m : ℕ) → count ≤ m → deeds_in (lives m) (deeds m) ≡ [])
     → AreAllowed WentBefore [] order → ShowsSite home order now
