@@ -5,9 +5,9 @@ use Rattle.site_laws.specs.Lives.{MemberKept}
 use Rattle.member.specs.Member.{HasPlace}
 
 -- what was found, if something was
-abbrev pub found_in : List (MemberKept × Bool) → Option MemberKept
-found_in [] = None
-found_in (e ∷ rest) = Some e.0
+abbrev pub record_found : List (MemberKept × Bool) → Option MemberKept
+record_found [] = None
+record_found (e ∷ rest) = Some e.0
 
 -- a process of member `id` may begin with this: it was kept of that member, in a site of as many members and proxies
 pub record MayBegin (c : ConfigView) (id : ℕ) (kept : MemberKept) : Type 0 where

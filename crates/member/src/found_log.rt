@@ -23,13 +23,13 @@ impl Model for FoundLog {
     ghost use Rattle.std.specs.Coded.{coded_option};
     ghost use Rattle.site_laws.specs.Lives.{MemberKept};
     ghost use Rattle.member.specs.contracts.member_record.MemberRecord as of_record;
-    ghost use Rattle.member.specs.Recording.{found_in};
+    ghost use Rattle.member.specs.Recording.{record_found};
 
     ghost Value = { Option MemberKept };
 
     ghost coded = { coded_option of_record.the_row.coded };
 
-    ghost view = { λ f. found_in f.entries.items };
+    ghost view = { λ f. record_found f.entries.items };
 }
 
 impl FoundLog {
