@@ -184,6 +184,13 @@ begins id c kept found n leaving shown is same none silent = record {
   show = sym silent;
 }
 
+-- what is done of a replica leaves the proxies
+pub host_leaves_proxies : (DoesSo : HostView → HostView → List (Letter Body) → Type 0) (id : ℕ) (n now : NodesView) → HostMoves DoesSo id n now → now.proxies ≡ n.proxies
+host_leaves_proxies DoesSo id n now moves = ap (λ (x : NodesView). x.proxies) moves.5
+
+pub verifier_leaves_proxies : (DoesSo : Slot VerifierView → Slot VerifierView → List (Letter Ballot) → Type 0) (id : ℕ) (n now : NodesView) → VerifierMoves DoesSo id n now → now.proxies ≡ n.proxies
+verifier_leaves_proxies DoesSo id n now moves = ap (λ (x : NodesView). x.proxies) moves.5
+
 -- one more letter was handed out
 pub out_more : (all letters leaving letters_now leaving_now : List (Letter Body)) (l : Letter Body) → all ≡ letters ++ leaving → leaving ≡ l ∷ leaving_now → letters_now ≡ letters ++ l ∷ [] → all ≡ letters_now ++ leaving_now
 out_more all letters leaving letters_now leaving_now l is first more =

@@ -103,6 +103,7 @@ impl Member {
         ensures whose { whose self.new ≡ whose self.old }
         ensures shown { self.new.shown ≡ self.old.shown }
         ensures leaving { self.new.leaving ≡ self.old.leaving }
+        ensures proxies { self.new.nodes.proxies ≡ self.old.nodes.proxies }
         ensures up { self.new.refused ≡ self.old.refused → self.old.refused < 2 ^ 64 - 1 → AreBothUp self.new }
     {
         self.open_executor(alloc);

@@ -181,7 +181,8 @@ impl Member {
 
     /// The member of this number of a site, whose process begins with what was kept of another one. Its executor and its
     /// verifier are opened, each with its record. One for which there is no memory is down, which is counted (`refused`), and
-    /// `restart` opens it. No letter is under way, and the proxies have outstanding what they had: `again` asks it again.
+    /// `restart` opens it. No letter of another process is under way, and the proxies have outstanding what they had: `again`
+    /// asks it once more.
     ///
     /// Unfit: the site has no member of this number, or there are fewer proxies than members, or the record is of another
     /// member, or of a site of another size; NoMemory: an allocation failed.
@@ -194,6 +195,7 @@ impl Member {
         ensures whose { IfOk result (λ member. whose member ≡ (id, config.now, Some found)) }
         ensures shown { IfOk result (λ member. member.shown ≡ []) }
         ensures leaving { IfOk result (λ member. member.leaving ≡ []) }
+        ensures proxies { IfOk result (λ member. member.nodes.proxies ≡ found.proxies) }
         ensures up { IfOk result (λ member. member.refused ≡ 0 → AreBothUp member) }
         ensures unfit { result ≡ Err Fault.Unfit ↔ (MayBegin config.now id found → ⊥) }
         ensures only { IfErr result (λ fault. (fault ≡ Fault.Unfit) ⊎ (fault ≡ Fault.NoMemory)) }

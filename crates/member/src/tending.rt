@@ -156,6 +156,7 @@ impl Member {
     /// Opens its executor, if it is down.
     pub(crate) fn open_executor(&mut self, alloc: Global)
         ensures opens { IsReopened (replica.Executor self.old.id) self.old.nodes self.new.nodes }
+        ensures proxies { self.new.nodes.proxies ≡ self.old.nodes.proxies }
         ensures shown { self.new.shown ≡ self.old.shown }
         ensures whose { whose self.new ≡ whose self.old }
         ensures leaving { self.new.leaving ≡ self.old.leaving }
@@ -167,6 +168,7 @@ impl Member {
     /// Opens its verifier, if it is down.
     pub(crate) fn open_verifier(&mut self, alloc: Global)
         ensures opens { IsReopened (replica.Verifier self.old.id) self.old.nodes self.new.nodes }
+        ensures proxies { self.new.nodes.proxies ≡ self.old.nodes.proxies }
         ensures shown { self.new.shown ≡ self.old.shown }
         ensures whose { whose self.new ≡ whose self.old }
         ensures leaving { self.new.leaving ≡ self.old.leaving }

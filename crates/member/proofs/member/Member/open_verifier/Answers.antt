@@ -1,10 +1,10 @@
-use Rattle.std.proofs.Common.{⊎_elim, refl, subst}
-use Rattle.ensemble.specs.Nodes.{VerifierOpens}
+use Rattle.std.proofs.Common.{◌≡◌, ⊎_elim, refl, ap, subst}
+use Rattle.ensemble.specs.Nodes.{NodesView, VerifierOpens}
 use Rattle.site_laws.specs.Site.{OpenedVerifier}
 use Rattle.ensemble.specs.Calls.{IsReopened}
 use Rattle.events.specs.declared.event.Replica.TheVariants as replica
 use Rattle.member.specs.Member.{MemberView}
-use Rattle.member.proofs.Steps.{verifier_goes_on, stays}
+use Rattle.member.proofs.Steps.{verifier_goes_on, stays, verifier_leaves_proxies}
 use Rattle.member.proofs.member.Member.open_verifier.Goals as goal
 
 pub invariant_of-self : goal.invariant_of-self
@@ -20,3 +20,13 @@ invariant_of-self c =
 
 pub returns-clause-opens : goal.returns-clause-opens
 returns-clause-opens c = subst (λ (v : MemberView). IsReopened (replica.Verifier v.id) v.nodes c.open_verifier.new.self) c.self.view_is c.open_verifier.ensures.opens
+
+pub returns-clause-proxies : goal.returns-clause-proxies
+returns-clause-proxies c =
+    let s = c.self.inside in
+    let now = c.open_verifier.new.self in
+    subst (λ (v : MemberView). now.proxies ≡ v.nodes.proxies) c.self.view_is
+    (⊎_elim
+    (λ moves. verifier_leaves_proxies (VerifierOpens s.nodes.u s.id) s.id s.nodes now moves)
+    (λ same. ap (λ (n : NodesView). n.proxies) same)
+    c.open_verifier.ensures.moves)
