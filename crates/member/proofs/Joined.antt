@@ -101,7 +101,7 @@ done_by c m found v p = subst (λ (w : ℕ × ConfigView × Option MemberKept). 
 -- what they did, with the ends of those that ended
 done_by_all : LifeLeadsToNext → (c : ConfigView) (m : ℕ) (found : Option MemberKept) (ended : List MemberView) (last : MemberView) → AreProcesses c m found ended last → HasDone m c found (with_leaving last.leaving last.nodes) (shown_by_all ended last)
 done_by_all law c m found [] last p = done_by c m found last p
-done_by_all law c m found (v ∷ ended) last (here, kept, is_kept, rest) =
+done_by_all law c m found (v ∷ ended) last (kept, here, is_kept, rest) =
     let first = done_by c m found v here in
     let later = done_by_all law c m (Some kept) ended last rest in
     record {

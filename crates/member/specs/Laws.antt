@@ -69,7 +69,7 @@ pub record IsProcessOf (c : ConfigView) (m : ℕ) (found : Option MemberKept) (v
 -- The processes of member m, one after the other: each of the first ones as it was when that was kept with which the next one began, and the last one as it is.
 abbrev pub AreProcesses : ConfigView → ℕ → Option MemberKept → List MemberView → MemberView → Type 0
 AreProcesses c m found [] last = IsProcessOf c m found last
-AreProcesses c m found (v ∷ ended) last = IsProcessOf c m found v × ((kept : MemberKept) × IsKeptOf m v.nodes kept × AreProcesses c m (Some kept) ended last)
+AreProcesses c m found (v ∷ ended) last = (kept : MemberKept) × IsProcessOf c m found v × IsKeptOf m v.nodes kept × AreProcesses c m (Some kept) ended last
 
 -- what they have shown, in order
 abbrev pub shown_by_all : List MemberView → MemberView → List Shown
