@@ -98,29 +98,34 @@ fn put_verifier(verifiers: &mut Vec<VerifierSlot>, id: u8, keeper: MemKeeper<Tex
     }
 }
 
-/// The nodes with which a process of member `id` begins that found this.
-fn begun(alloc: Global, config: &Config, id: u8, found: MemberRecord) -> Result<Nodes, AllocError>
-    ensures { IfOk result (λ nodes. nodes ≡ nodes_with config.now id found) }
-{
-    let MemberRecord {
-        id: _,
-        u: _,
-        executor,
-        verifier,
-        proxies,
-    } = found;
-    let u = config.u();
-    let mut verifiers = unopened_verifiers(alloc, 2 * u + 1)?;
-    let mut executors = unopened_executors(alloc, 2 * u + 1)?;
-    put_verifier(&mut verifiers, id, verifier);
-    put_executor(alloc, &mut executors, id, executor);
-    Ok(Nodes {
-        u,
-        proxies,
-        executors,
-        verifiers,
-        mail: VecDeque::new(alloc),
-    })
+impl MemberRecord {
+    ghost use Rattle.std.specs.Prelude.{◌≡◌, IfOk};
+    ghost use Rattle.site_laws.specs.Lives.{nodes_with};
+
+    /// The nodes with which a process of member `id` begins that found this.
+    fn begun(self, alloc: Global, config: &Config, id: u8) -> Result<Nodes, AllocError>
+        ensures { IfOk result (λ nodes. nodes ≡ nodes_with config.now id self) }
+    {
+        let MemberRecord {
+            id: _,
+            u: _,
+            executor,
+            verifier,
+            proxies,
+        } = self;
+        let u = config.u();
+        let mut verifiers = unopened_verifiers(alloc, 2 * u + 1)?;
+        let mut executors = unopened_executors(alloc, 2 * u + 1)?;
+        put_verifier(&mut verifiers, id, verifier);
+        put_executor(alloc, &mut executors, id, executor);
+        Ok(Nodes {
+            u,
+            proxies,
+            executors,
+            verifiers,
+            mail: VecDeque::new(alloc),
+        })
+    }
 }
 
 /// Whether a process of member `id` may begin with this.
@@ -145,7 +150,7 @@ fn reopened(
     ensures { IfOk result (λ member. member ≡ record { id = id; config = config.now; found = Some found; nodes = nodes_with config.now id found; leaving = []; shown = []; refused = 0 }) }
 {
     let log = FoundLog::of(&found);
-    let nodes = begun(alloc, config, id, found)?;
+    let nodes = found.begun(alloc, config, id)?;
     Ok(Member {
         id,
         config: *config,
