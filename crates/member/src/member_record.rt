@@ -1,10 +1,20 @@
 //! What is kept of a member.
 
+ghost use Rattle.std.specs.Prelude.{◌≡◌, slice_set};
+ghost use Rattle.ensemble.specs.Kept.{down_host, down_verifier};
+
+use crate::opening::{unopened_executors, unopened_verifiers};
 use base::Text;
+use ensemble::{Config, Nodes};
 use exec_lines::ExecutorRecord;
+use hosts::ExecutorHost;
 use keeper::MemKeeper;
 use proxies::Proxy;
+use std::alloc::{AllocError, Global};
+use std::collections::VecDeque;
 use std::marker::Model;
+use std::mem;
+use worlds::VerifierSlot;
 
 /// What is kept of a member when its process ends, of one moment: what the keepers of its executor and its verifier have,
 /// and what each proxy asked last. Another process of the member goes on from it.
@@ -43,9 +53,35 @@ impl Model for MemberRecord {
     ghost invariant = { λ r. (r.u < 4) × AreNumbered r.proxies.items };
 }
 
+/// The executor of this number, if there is one, is now one that is down, with this keeper.
+#[tactic(auto, using(crate::proofs::Places::set_none))]
+fn put_executor(
+    alloc: Global,
+    executors: &mut Vec<ExecutorHost>,
+    id: u8,
+    keeper: MemKeeper<ExecutorRecord>,
+)
+    ensures { executors.new.items ≡ slice_set executors.old.items id (down_host keeper) }
+{
+    if let Some(host) = executors.get_mut(usize::from(id)) {
+        mem::replace(host, ExecutorHost::down(alloc, keeper)).end();
+    }
+}
+
+/// The verifier of this number, if there is one, is now one that is down, with this keeper.
+#[tactic(auto, using(crate::proofs::Places::set_none))]
+fn put_verifier(verifiers: &mut Vec<VerifierSlot>, id: u8, keeper: MemKeeper<Text>)
+    ensures { verifiers.new.items ≡ slice_set verifiers.old.items id (down_verifier keeper) }
+{
+    if let Some(slot) = verifiers.get_mut(usize::from(id)) {
+        *slot = VerifierSlot::down(keeper);
+    }
+}
+
 impl MemberRecord {
-    ghost use Rattle.std.specs.Prelude.{◌≡◌, ◌<◌};
+    ghost use Rattle.std.specs.Prelude.{◌≡◌, ◌<◌, IfOk};
     ghost use Rattle.ensemble.specs.Nodes.{AreNumbered};
+    ghost use Rattle.site_laws.specs.Lives.{nodes_with};
 
     /// The record of member `id` of a site of `2u + 1` members, which these keepers are of, and of the proxies of all
     /// members, which are numbered from 1.
@@ -104,5 +140,30 @@ impl MemberRecord {
         ensures numbered { AreNumbered self.now.proxies }
     {
         self.proxies.as_slice()
+    }
+
+    /// The nodes with which a process of member `id` begins that found this.
+    pub(crate) fn begun(self, alloc: Global, config: &Config, id: u8) -> Result<Nodes, AllocError>
+        ensures { IfOk result (λ nodes. nodes ≡ nodes_with config.now id self) }
+    {
+        let MemberRecord {
+            id: _,
+            u: _,
+            executor,
+            verifier,
+            proxies,
+        } = self;
+        let u = config.u();
+        let mut verifiers = unopened_verifiers(alloc, 2 * u + 1)?;
+        let mut executors = unopened_executors(alloc, 2 * u + 1)?;
+        put_verifier(&mut verifiers, id, verifier);
+        put_executor(alloc, &mut executors, id, executor);
+        Ok(Nodes {
+            u,
+            proxies,
+            executors,
+            verifiers,
+            mail: VecDeque::new(alloc),
+        })
     }
 }

@@ -1,7 +1,6 @@
 //! What is kept of a member when its process ends, and the member of a process that begins with it.
 
-ghost use Rattle.std.specs.Prelude.{◌≡◌, ◌⊎◌, [], Some, IfOk, IfErr, IsTrue, slice_set};
-ghost use Rattle.ensemble.specs.Kept.{down_host, down_verifier};
+ghost use Rattle.std.specs.Prelude.{◌≡◌, ◌⊎◌, [], Some, IfOk, IfErr, IsTrue};
 ghost use Rattle.site_laws.specs.Lives.{KeepsExecutor, KeepsVerifier, IsKeptOf, nodes_with};
 ghost use Rattle.member.specs.Member.{HasPlace};
 ghost use Rattle.member.specs.Recording.{MayBegin};
@@ -9,7 +8,7 @@ ghost use Rattle.member.specs.Recording.{MayBegin};
 use crate::found_log::FoundLog;
 use crate::member::Member;
 use crate::member_record::MemberRecord;
-use crate::opening::{has_place, unopened_executors, unopened_verifiers};
+use crate::opening::has_place;
 use crate::shown_log::ShownLog;
 use base::Text;
 use ensemble::{Config, Nodes};
@@ -20,7 +19,6 @@ use proto::Fault;
 use proxies::Proxy;
 use std::alloc::{AllocError, Global};
 use std::collections::VecDeque;
-use std::mem;
 use worlds::VerifierSlot;
 
 /// These proxies once more.
@@ -71,61 +69,6 @@ fn kept_of(alloc: Global, nodes: &Nodes, id: u8) -> Result<MemberRecord, Fault>
     let verifier = kept_verifier(nodes.verifiers.as_slice(), id)?;
     let proxies = copied(alloc, nodes.proxies.as_slice())?;
     Ok(MemberRecord::of(id, nodes.u, executor, verifier, proxies))
-}
-
-/// The executor of this number, if there is one, is now one that is down, with this keeper.
-#[tactic(auto, using(crate::proofs::Places::set_none))]
-fn put_executor(
-    alloc: Global,
-    executors: &mut Vec<ExecutorHost>,
-    id: u8,
-    keeper: MemKeeper<ExecutorRecord>,
-)
-    ensures { executors.new.items ≡ slice_set executors.old.items id (down_host keeper) }
-{
-    if let Some(host) = executors.get_mut(usize::from(id)) {
-        mem::replace(host, ExecutorHost::down(alloc, keeper)).end();
-    }
-}
-
-/// The verifier of this number, if there is one, is now one that is down, with this keeper.
-#[tactic(auto, using(crate::proofs::Places::set_none))]
-fn put_verifier(verifiers: &mut Vec<VerifierSlot>, id: u8, keeper: MemKeeper<Text>)
-    ensures { verifiers.new.items ≡ slice_set verifiers.old.items id (down_verifier keeper) }
-{
-    if let Some(slot) = verifiers.get_mut(usize::from(id)) {
-        *slot = VerifierSlot::down(keeper);
-    }
-}
-
-impl MemberRecord {
-    ghost use Rattle.std.specs.Prelude.{◌≡◌, IfOk};
-    ghost use Rattle.site_laws.specs.Lives.{nodes_with};
-
-    /// The nodes with which a process of member `id` begins that found this.
-    fn begun(self, alloc: Global, config: &Config, id: u8) -> Result<Nodes, AllocError>
-        ensures { IfOk result (λ nodes. nodes ≡ nodes_with config.now id self) }
-    {
-        let MemberRecord {
-            id: _,
-            u: _,
-            executor,
-            verifier,
-            proxies,
-        } = self;
-        let u = config.u();
-        let mut verifiers = unopened_verifiers(alloc, 2 * u + 1)?;
-        let mut executors = unopened_executors(alloc, 2 * u + 1)?;
-        put_verifier(&mut verifiers, id, verifier);
-        put_executor(alloc, &mut executors, id, executor);
-        Ok(Nodes {
-            u,
-            proxies,
-            executors,
-            verifiers,
-            mail: VecDeque::new(alloc),
-        })
-    }
 }
 
 /// Whether a process of member `id` may begin with this.
