@@ -67,7 +67,8 @@ fn page_of(alloc: Global, layout: Layout, found: &FoundItems, number: usize) -> 
 fn pages_of(alloc: Global, layout: Layout, found: &FoundItems) -> Result<Pages, Fault> {
     let mut pages = Vec::with_capacity(alloc, PAGES)?;
     for number in 0..PAGES {
-        pages.push(page_of(alloc, layout, found, number)?)?;
+        let page = page_of(alloc, layout, found, number)?;
+        pages.push(page)?;
     }
     Ok(Pages::join(pages))
 }
