@@ -8,9 +8,9 @@ use std::alloc::{AllocError, Global};
 /// The key of these bytes, or `k` if they are none.
 pub fn key(alloc: Global, bytes: &[u8]) -> Result<Key, AllocError> {
     if is_key_text(bytes) {
-        return Ok(Key::new(Vec::from_slice(alloc, bytes)?));
+        return Ok(Key::from_slice(alloc, bytes)?);
     }
-    Ok(Key::new(vec![in alloc; b'k']?))
+    Ok(Key::from_slice(alloc, &[b'k'])?)
 }
 
 pub fn item(
