@@ -49,22 +49,14 @@ fn any_bytes(words: &mut Words) -> usize {
 /// An event by which letters are lost, or come late or twice.
 fn any_trouble(words: &mut Words, lanes: u32) -> Event {
     let lane = words.below(lanes) as usize;
-    match words.below(8) {
-        0 => Event::Cut,
-        1 | 2 => Event::Heal,
-        3 => Event::Lose {
-            lane,
-            loss: Loss::Sender,
-        },
-        4 => Event::Lose {
-            lane,
-            loss: Loss::Receiver,
-        },
-        _ => Event::Lose {
-            lane,
-            loss: Loss::Connection,
-        },
-    }
+    let loss = match words.below(8) {
+        0 => return Event::Cut,
+        1 | 2 => return Event::Heal,
+        3 => Loss::Sender,
+        4 => Loss::Receiver,
+        _ => Loss::Connection,
+    };
+    Event::Lose { lane, loss }
 }
 
 /// A proxy of so many.

@@ -77,7 +77,7 @@ fn play_all<R: Threads + Wait + Sync + Print>(
     threads: &R,
     given: Given,
 ) -> io::Result<u8> {
-    let mut counts = Counts::new();
+    let mut counts = Counts::default();
     for index in 0..given.last.saturating_sub(given.first).saturating_add(1) {
         let seed = given.first.saturating_add(index);
         match play(threads, rt.alloc(), given, seed, &mut counts) {

@@ -115,7 +115,7 @@ impl Net {
         } = self;
         for lane in lanes.iter_mut() {
             if lane.to == member {
-                if side_of(sides, lane.from) != side_of(sides, member) {
+                if side_of(sides.as_slice(), lane.from) != side_of(sides.as_slice(), member) {
                     lane.lose(alloc, Loss::Connection);
                 } else if *is_fair || words.one_in(2) {
                     lane.carry(alloc, bytes, texts);

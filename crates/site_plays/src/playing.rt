@@ -18,7 +18,7 @@ pub enum Played {
 }
 
 /// What came of some plays.
-#[derive(Drop)]
+#[derive(Default, Drop)]
 pub struct Counts {
     pub plays: u64,
     pub requests: u64,
@@ -34,19 +34,6 @@ pub struct Counts {
 }
 
 impl Counts {
-    pub fn new() -> Counts {
-        Counts {
-            plays: 0,
-            requests: 0,
-            answers: 0,
-            letters: 0,
-            suspicions: 0,
-            changes: 0,
-            needs: 0,
-            restarts: 0,
-        }
-    }
-
     /// A play is over.
     fn add(&mut self, site: &Site) {
         self.plays = self.plays.saturating_add(1);

@@ -91,7 +91,7 @@ impl Site {
         let net = Net::new(alloc, count)?;
         let watches = watches(alloc, count)?;
         let seen = Seen::new(alloc, count)?;
-        let judge = Judge::new(alloc, count * usize::from(PROXIES))?;
+        let judge = Judge::new(alloc, count.saturating_mul(usize::from(PROXIES)))?;
         let mut words = Words::new(seed);
         let trouble = any_trouble(&mut words);
         Ok(Site {
@@ -342,7 +342,7 @@ impl Site {
     }
 
     /// A proxy of the first member sets the counter of this row to 0: whether there is memory for that.
-    pub fn set_counter(&mut self, alloc: Global, row: u16) -> bool {
+    fn set_counter(&mut self, alloc: Global, row: u16) -> bool {
         let proxy = row.saturating_add(1);
         let ask = Ask::Set(0);
         let row = usize::from(row);
