@@ -1,5 +1,6 @@
 //! The fair end of a play: nothing is lost any more, and all that is on its way comes.
 
+use crate::event::any_proxy;
 use crate::site::Site;
 use crate::wrong::Wrong;
 use std::alloc::Global;
@@ -26,23 +27,31 @@ const SLOWNESS: u32 = 5;
 const MOST_LATE: u32 = 1000;
 
 impl Site {
-    /// The member hears all that is on its way to it, and works.
-    fn turn_of<R: Threads + Wait + Sync>(&mut self, rt: &R, alloc: Global, id: usize) {
+    /// The member hears all that is on its way to it, and works, unless it is slow and this is no turn of its own.
+    fn turn_of<R: Threads + Wait + Sync>(
+        &mut self,
+        rt: &R,
+        alloc: Global,
+        id: usize,
+        all_work: bool,
+    ) {
         self.hear(alloc, id, usize::MAX);
-        self.work(rt, alloc, id);
-    }
-
-    /// So does each member.
-    fn turn<R: Threads + Wait + Sync>(&mut self, rt: &R, alloc: Global) {
-        for id in 0..self.members.len() {
-            self.turn_of(rt, alloc, id);
+        if all_work || self.slow != Some(id) {
+            self.work(rt, alloc, id);
         }
     }
 
-    /// So it does for a tick.
+    /// So does each member.
+    fn turn<R: Threads + Wait + Sync>(&mut self, rt: &R, alloc: Global, all_work: bool) {
+        for id in 0..self.members.len() {
+            self.turn_of(rt, alloc, id, all_work);
+        }
+    }
+
+    /// So they do for a tick.
     fn turns<R: Threads + Wait + Sync>(&mut self, rt: &R, alloc: Global) {
         for _ in 0..TURNS {
-            self.turn(rt, alloc);
+            self.turn(rt, alloc, true);
         }
     }
 
@@ -136,29 +145,13 @@ impl Site {
         }
     }
 
-    /// The member hears all that is on its way to it, and works unless it is slow.
-    fn slow_turn_of<R: Threads + Wait + Sync>(
-        &mut self,
-        rt: &R,
-        alloc: Global,
-        id: usize,
-        works: bool,
-    ) {
-        self.hear(alloc, id, usize::MAX);
-        if works || self.slow != Some(id) {
-            self.work(rt, alloc, id);
-        }
-    }
-
-    /// So does each member, and a proxy asks something.
-    fn slow_turn<R: Threads + Wait + Sync>(&mut self, rt: &R, alloc: Global, works: bool) {
+    /// A proxy asks something, and each member has its turn.
+    fn slow_turn<R: Threads + Wait + Sync>(&mut self, rt: &R, alloc: Global, all_work: bool) {
         let proxies = u32::from(self.proxies());
-        let proxy = self.words.below(proxies).saturating_add(1);
-        self.ask(alloc, u16::try_from(proxy).unwrap_or(1));
-        for id in 0..self.members.len() {
-            self.slow_turn_of(rt, alloc, id, works);
-        }
-        if works {
+        let proxy = any_proxy(&mut self.words, proxies);
+        self.ask(alloc, proxy);
+        self.turn(rt, alloc, all_work);
+        if all_work {
             self.give_orders(alloc);
         }
     }

@@ -60,7 +60,7 @@ fn any_trouble(words: &mut Words, lanes: u32) -> Event {
 }
 
 /// A proxy of so many.
-fn any_proxy(words: &mut Words, proxies: u32) -> u16 {
+pub fn any_proxy(words: &mut Words, proxies: u32) -> u16 {
     let proxy = words.below(proxies).saturating_add(1);
     u16::try_from(proxy).unwrap_or(1)
 }

@@ -2,7 +2,7 @@
 
 ghost use Rattle.std.specs.Prelude.{◌<◌};
 
-use clap::{Arg, ArgAction, Command};
+use clap::{Arg, ArgAction, ArgMatches, Command};
 use std::alloc::Global;
 use words::WordsFault;
 
@@ -31,16 +31,6 @@ pub struct Given {
     ghost few: { u < 4 },
 }
 
-/// The texts behind the options.
-#[derive(Clone, Copy)]
-struct Texts<'a> {
-    u: Option<&'a str>,
-    seeds: Option<&'a str>,
-    seed: Option<&'a str>,
-    events: Option<&'a str>,
-    wrong: Option<&'a str>,
-}
-
 /// The number that the digits spell.
 fn number(text: &str) -> Option<u32> {
     if text.is_empty() || !text.as_bytes().iter().all(|byte| byte.is_ascii_digit()) {
@@ -54,26 +44,9 @@ fn option<'a>(alloc: Global, name: &'a str) -> Arg<'a> {
     Arg::new(alloc, name).long(name).action(ArgAction::Set)
 }
 
-fn texts<'a>(alloc: Global, words: &'a [String]) -> Result<Texts<'a>, WordsFault> {
-    let command = Command::new(alloc, "site_plays")
-        .arg(option(alloc, "u"))?
-        .arg(option(alloc, "seeds"))?
-        .arg(option(alloc, "seed"))?
-        .arg(option(alloc, "events"))?
-        .arg(option(alloc, "wrong"))?;
-    let matches = command.try_get_matches_from(words)?;
-    Ok(Texts {
-        u: matches.get_str("u"),
-        seeds: matches.get_str("seeds"),
-        seed: matches.get_str("seed"),
-        events: matches.get_str("events"),
-        wrong: matches.get_str("wrong"),
-    })
-}
-
 /// The seeds of `--seeds FIRST..LAST` or `--seed N`, and whether it is the second form.
-fn seeds_of(texts: Texts) -> Option<(u32, u32, bool)> {
-    match (texts.seeds, texts.seed) {
+fn seeds_of(matches: &ArgMatches<'_>) -> Option<(u32, u32, bool)> {
+    match (matches.get_str("seeds"), matches.get_str("seed")) {
         (Some(seeds), None) => {
             let (first, last) = seeds.split_once("..")?;
             Some((number(first)?, number(last)?, false))
@@ -96,11 +69,11 @@ fn planted_of(wrong: &str) -> Option<Planted> {
     }
 }
 
-fn given_of(texts: Texts) -> Option<Given> {
-    let u = u8::try_from(number(texts.u?)?).ok()?;
-    let (first, last, is_told) = seeds_of(texts)?;
-    let events = number(texts.events?)?;
-    let planted = match texts.wrong {
+fn given_of(matches: &ArgMatches<'_>) -> Option<Given> {
+    let u = u8::try_from(number(matches.get_str("u")?)?).ok()?;
+    let (first, last, is_told) = seeds_of(matches)?;
+    let events = number(matches.get_str("events")?)?;
+    let planted = match matches.get_str("wrong") {
         Some(wrong) => Some(planted_of(wrong)?),
         None => None,
     };
@@ -120,5 +93,12 @@ fn given_of(texts: Texts) -> Option<Given> {
 /// What the words say: `--u U --seeds FIRST..LAST --events N`, or `--seed N` for one seed whose events are printed, and
 /// `--wrong KIND` for a planted fault. U is from 0 to 3.
 pub fn read_words(alloc: Global, words: &[String]) -> Result<Given, WordsFault> {
-    given_of(texts(alloc, words)?).ok_or(WordsFault::Usage)
+    let command = Command::new(alloc, "site_plays")
+        .arg(option(alloc, "u"))?
+        .arg(option(alloc, "seeds"))?
+        .arg(option(alloc, "seed"))?
+        .arg(option(alloc, "events"))?
+        .arg(option(alloc, "wrong"))?;
+    let matches = command.try_get_matches_from(words)?;
+    given_of(&matches).ok_or(WordsFault::Usage)
 }
