@@ -27,6 +27,8 @@ pub enum Event {
     Work { member: usize },
     /// Bytes come to the member, on some of its lanes: at most so many on each.
     Hear { member: usize, bytes: usize },
+    /// So they do, and then the member works.
+    Turn { member: usize, bytes: usize },
     /// A letter that was held back comes.
     Late,
     /// The connection of a lane ends, and maybe what an end of it knows is lost.
@@ -68,17 +70,16 @@ pub fn any_proxy(words: &mut Words, proxies: u32) -> u16 {
 /// An event of a site with so many members, proxies and lanes.
 pub fn any_event(words: &mut Words, members: u32, proxies: u32, lanes: u32) -> Event {
     let member = words.below(members) as usize;
+    let bytes = any_bytes(words);
     match words.below(32) {
-        0 => Event::Tick,
-        1 => any_trouble(words, lanes),
-        2 => Event::Late,
-        3..=8 => Event::Ask {
+        0..=2 => Event::Tick,
+        3 | 4 => any_trouble(words, lanes),
+        5 => Event::Late,
+        6..=11 => Event::Ask {
             proxy: any_proxy(words, proxies),
         },
-        9..=19 => Event::Work { member },
-        _ => Event::Hear {
-            member,
-            bytes: any_bytes(words),
-        },
+        12..=14 => Event::Work { member },
+        15..=17 => Event::Hear { member, bytes },
+        _ => Event::Turn { member, bytes },
     }
 }

@@ -447,6 +447,10 @@ impl Site {
             Event::Ask { proxy } => self.ask(alloc, proxy),
             Event::Work { member } => self.work(rt, alloc, member),
             Event::Hear { member, bytes } => self.hear(alloc, member, bytes),
+            Event::Turn { member, bytes } => {
+                self.hear(alloc, member, bytes);
+                self.work(rt, alloc, member);
+            }
             Event::Late => {
                 self.take_late(alloc);
             }
