@@ -163,9 +163,12 @@ impl Site {
         }
     }
 
-    /// How often a member was refused something.
+    /// How often something was not done for want of memory.
     fn refused(&self) -> u64 {
-        let mut refused = self.restarts;
+        let mut refused = self
+            .restarts
+            .saturating_add(self.lost)
+            .saturating_add(self.net.lost());
         for member in &self.members {
             refused = refused.saturating_add(member.refused());
         }

@@ -30,6 +30,8 @@ pub struct Lane {
     connection: Option<Connection>,
     /// Whether no end has refused what the other one sent.
     pub is_right: bool,
+    /// How many letters were lost for want of memory.
+    pub lost: u64,
 }
 
 impl Lane {
@@ -50,12 +52,15 @@ impl Lane {
             to_life: 1,
             connection: None,
             is_right: true,
+            lost: 0,
         }
     }
 
     /// The text of a letter is to be sent. It is lost if there is no memory for it.
     pub fn push(&mut self, text: Text) {
-        let _ = self.sending.push(text);
+        if self.sending.push(text).is_err() {
+            self.lost = self.lost.saturating_add(1);
+        }
     }
 
     /// Whether each letter that was to be sent has come, and is acknowledged.
@@ -147,7 +152,9 @@ impl Lane {
     fn receive(&mut self, message: Message, texts: &mut Vec<Vec<u8>>) {
         match self.receiving.receive(message) {
             Ok(Some(letter)) => {
-                let _ = texts.push(letter.into_text());
+                if texts.push(letter.into_text()).is_err() {
+                    self.lost = self.lost.saturating_add(1);
+                }
             }
             Ok(None) => {}
             Err(_) => self.is_right = false,

@@ -146,6 +146,15 @@ impl Net {
         self.late.is_empty() && self.lanes.iter().all(|lane| lane.is_idle())
     }
 
+    /// How many letters were lost for want of memory.
+    pub fn lost(&self) -> u64 {
+        let mut lost = 0u64;
+        for lane in &self.lanes {
+            lost = lost.saturating_add(lane.lost);
+        }
+        lost
+    }
+
     /// Whether no end of a lane has refused what the other one sent.
     pub fn is_right(&self) -> bool {
         self.lanes.iter().all(|lane| lane.is_right)

@@ -47,6 +47,8 @@ pub struct Site {
     ticks: u32,
     pub suspicions: u64,
     pub restarts: u64,
+    /// How many letters had no text, or were not read, for want of memory.
+    pub lost: u64,
 }
 
 /// The index of the member that has the node.
@@ -109,6 +111,7 @@ impl Site {
             ticks: 0,
             suspicions: 0,
             restarts: 0,
+            lost: 0,
         })
     }
 
@@ -146,6 +149,7 @@ impl Site {
             ticks: _,
             suspicions: _,
             restarts: _,
+            lost: _,
         } = self;
         end_all(members);
         drop(net);
@@ -184,8 +188,9 @@ impl Site {
         if self.is_lost(from, to) {
             return;
         }
-        if let Ok(text) = to_text(alloc, letter) {
-            self.net.push(from, to, is_bulk(letter), text);
+        match to_text(alloc, letter) {
+            Ok(text) => self.net.push(from, to, is_bulk(letter), text),
+            Err(_) => self.lost = self.lost.saturating_add(1),
         }
     }
 
@@ -271,7 +276,7 @@ impl Site {
     fn come(&mut self, alloc: Global, text: &[u8]) {
         match read(alloc, text) {
             Ok(letter) => self.come_in(letter),
-            Err(Fault::NoMemory) => {}
+            Err(Fault::NoMemory) => self.lost = self.lost.saturating_add(1),
             Err(_) => self.judge.refuse(Wrong::Letter),
         }
     }
