@@ -181,10 +181,10 @@ impl Site {
         self.slow = Some(self.words.below(members) as usize);
         let (needs, refused) = (self.seen.needs, self.refused());
         self.slow_turns(rt, alloc);
-        self.come_together(rt, alloc);
         if self.seen.needs != needs && self.refused() == refused {
             self.judge.refuse(Wrong::Behind);
         }
+        self.come_together(rt, alloc);
     }
 
     /// All is answered, and all executors have one state, also if a member is slow then.
