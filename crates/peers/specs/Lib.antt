@@ -1,0 +1,7 @@
+pub mod Greeting
+pub mod Hello
+pub mod Identity
+pub mod Lanes
+pub mod Stranger
+pub mod Strangers
+pub mod Ways
