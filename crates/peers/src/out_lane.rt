@@ -218,8 +218,16 @@ impl OutLane {
         matches!(&self.stage, OutStage::Down { .. })
     }
 
+    /// Whether a connection is being made.
+    pub fn is_connecting(&self) -> bool {
+        matches!(&self.stage, OutStage::Connecting { .. })
+    }
+
     /// Whether messages go both ways.
-    pub fn is_open(&self) -> bool {
+    pub fn is_open(&self) -> bool
+        ensures yes { IsTrue result → IsOpen self.now.stage }
+        ensures no { IsOpen self.now.stage → IsTrue result }
+    {
         matches!(&self.stage, OutStage::Open { .. })
     }
 
