@@ -3,7 +3,7 @@
 //!     let mut peers = PeerLoop::new(rt, alloc, listener, setup)?;
 //!     peers.push(peer, LaneKind::Quick, text)?;       // a letter to a peer
 //!     peers.pass(rt, most)?;                          // waits until something can be done, and does it
-//!     let came = peers.take_came();                   // the letters that came since this was last called
+//!     let letters = peers.take_letters(peer, LaneKind::Quick);
 //!     peers.took(peer, lane, bytes);                  // so many bytes of them are done with
 //!
 //! It is built on `peers`, which decides what is done with bytes and moments, and `mio`. Each other member has four
@@ -15,4 +15,5 @@ mod peer_loop;
 mod places;
 mod socket;
 
-pub use peer_loop::{Came, PeerLoop, Setup};
+pub use peer_loop::PeerLoop;
+pub use setup::Setup;

@@ -1,18 +1,21 @@
 //! The loop over the listener and the connections of all peers.
 
-use crate::places::{Place, lane_at, lane_index, place_of, token_of};
-use crate::socket::{After, Piece, Socket};
+use crate::places::{Place, lane_index, place_of, token_of};
+use crate::setup::{
+    Peer, Setup, lanes_in, lanes_out, no_letters, no_sockets, no_waits, other_members,
+};
+use crate::socket::{After, Socket};
 use base::Text;
-use links::{LaneBounds, LinkFault};
+use links::{LaneBounds, LinkFault, Message};
 use mio::net::{TcpListener, TcpStream};
 use mio::{Events, Interest, Poll, Token, Waker};
 use peers::{
-    Act, Admitted, Backlog, Identity, InLane, LaneKind, MOST_STRANGERS, OutLane, PeerFigures,
-    RANDOM_BYTES, Strangers, peer_figures,
+    Act, Backlog, Identity, InLane, LaneKind, MOST_STRANGERS, OutLane, PeerFigures, Strangers,
+    peer_figures,
 };
 use std::alloc::Global;
 use std::io::ErrorKind;
-use std::net::{Net, SocketAddr};
+use std::net::Net;
 use std::random::RandomSource;
 use std::rt::Clock;
 use std::time::{Duration, Instant};
@@ -34,78 +37,31 @@ const LISTENER: Token = Token(usize::MAX);
 
 const WAKER: Token = Token(usize::MAX - 1);
 
-/// A letter that came.
-pub struct Came {
-    /// The member from which it came, and the lane.
-    pub peer: u8,
-    pub lane: LaneKind,
-    /// The text of the letter.
-    pub text: Vec<u8>,
-}
-
-impl Drop for Came {
-    fn drop(self) {
-        let Came {
-            peer: _,
-            lane: _,
-            text: _,
-        } = self;
-    }
-}
-
-/// What a member has to know of its site.
-pub struct Setup {
-    pub id: Identity,
-    /// Where each member is reached, by their numbers.
-    pub addresses: Vec<SocketAddr>,
-    /// The highest life of each member that was seen by processes before this one. Those that are missing are 0.
-    pub lives: Vec<u64>,
-    /// The bounds of the bulk lanes.
-    pub bulk: LaneBounds,
-}
-
-impl Drop for Setup {
-    fn drop(self) {
-        let Setup {
-            id: _,
-            addresses: _,
-            lives: _,
-            bulk: _,
-        } = self;
-    }
-}
-
-/// Another member.
-#[derive(Clone, Copy)]
-struct Peer {
-    id: u8,
-    address: SocketAddr,
-}
-
 /// The lanes of all peers, and their connections.
 pub struct PeerLoop {
-    alloc: Global,
-    poll: Poll,
-    events: Events,
-    listener: TcpListener,
-    id: Identity,
-    bulk: LaneBounds,
-    peers: Vec<Peer>,
+    pub(crate) alloc: Global,
+    pub(crate) poll: Poll,
+    pub(crate) events: Events,
+    pub(crate) listener: TcpListener,
+    pub(crate) id: Identity,
+    pub(crate) bulk: LaneBounds,
+    pub(crate) peers: Vec<Peer>,
     /// Two lanes to each peer, and two from it: quick and bulk.
-    out_lanes: Vec<OutLane>,
-    in_lanes: Vec<InLane>,
-    strangers: Strangers,
+    pub(crate) out_lanes: Vec<OutLane>,
+    pub(crate) in_lanes: Vec<InLane>,
+    pub(crate) strangers: Strangers,
     /// What waits to be written to each stranger.
-    waits: Vec<Backlog>,
+    pub(crate) waits: Vec<Backlog>,
     /// The connection at each place: of lanes to peers, of lanes from peers, and of strangers.
-    sockets: Vec<Option<Socket>>,
-    came: Vec<Came>,
-    buffer: Vec<u8>,
-    start: Instant,
+    pub(crate) sockets: Vec<Option<Socket>>,
+    /// The letters that came on each lane from a peer, and are not taken.
+    pub(crate) letters: Vec<Vec<Message>>,
+    pub(crate) buffer: Vec<u8>,
+    pub(crate) start: Instant,
     /// Something can be done although nothing more becomes ready.
-    has_more: bool,
+    pub(crate) has_more: bool,
     /// A connection may wait to be accepted.
-    may_accept: bool,
+    pub(crate) may_accept: bool,
 }
 
 impl Drop for PeerLoop {
@@ -123,68 +79,13 @@ impl Drop for PeerLoop {
             strangers: _,
             waits: _,
             sockets: _,
-            came: _,
+            letters: _,
             buffer: _,
             start: _,
             has_more: _,
             may_accept: _,
         } = self;
     }
-}
-
-/// The other members.
-fn other_members(alloc: Global, setup: &Setup) -> io::Result<Vec<Peer>> {
-    let mut peers = Vec::new(alloc);
-    let mut id = 0u8;
-    for address in &setup.addresses {
-        if id != setup.id.me {
-            peers.push(Peer {
-                id,
-                address: *address,
-            })?;
-        }
-        id = id.saturating_add(1);
-    }
-    Ok(peers)
-}
-
-/// The lanes to peers.
-fn lanes_out(alloc: Global, peers: &[Peer], bulk: LaneBounds) -> io::Result<Vec<OutLane>> {
-    let mut lanes = Vec::new(alloc);
-    for _ in peers {
-        lanes.push(OutLane::new(alloc, LaneBounds::QUICK, 0))?;
-        lanes.push(OutLane::new(alloc, bulk, 0))?;
-    }
-    Ok(lanes)
-}
-
-/// The lanes from peers.
-fn lanes_in(alloc: Global, peers: &[Peer], lives: &[u64]) -> io::Result<Vec<InLane>> {
-    let mut lanes = Vec::new(alloc);
-    for peer in peers {
-        let life = lives.get(usize::from(peer.id)).copied().unwrap_or(0);
-        lanes.push(InLane::new(life))?;
-        lanes.push(InLane::new(life))?;
-    }
-    Ok(lanes)
-}
-
-/// So many places with no connection.
-fn no_sockets(alloc: Global, count: usize) -> io::Result<Vec<Option<Socket>>> {
-    let mut sockets = Vec::with_capacity(alloc, count)?;
-    for _ in 0..count {
-        sockets.push(None)?;
-    }
-    Ok(sockets)
-}
-
-/// Nothing waits for any stranger.
-fn no_waits(alloc: Global) -> io::Result<Vec<Backlog>> {
-    let mut waits = Vec::with_capacity(alloc, MOST_STRANGERS)?;
-    for _ in 0..MOST_STRANGERS {
-        waits.push(Backlog::new(alloc))?;
-    }
-    Ok(waits)
 }
 
 impl PeerLoop {
@@ -213,7 +114,7 @@ impl PeerLoop {
             strangers: Strangers::new(alloc)?,
             waits: no_waits(alloc)?,
             sockets: no_sockets(alloc, places)?,
-            came: Vec::new(alloc),
+            letters: no_letters(alloc, lanes)?,
             buffer: vec![in alloc; 0u8; MOST_PIECE_BYTES]?,
             start: Instant::now(rt)?,
             has_more: true,
@@ -227,7 +128,7 @@ impl PeerLoop {
     }
 
     /// The index of a member among the peers.
-    fn peer_index(&self, member: u8) -> Option<usize> {
+    pub(crate) fn peer_index(&self, member: u8) -> Option<usize> {
         self.peers.iter().position(|peer| peer.id == member)
     }
 
@@ -243,9 +144,16 @@ impl PeerLoop {
         }
     }
 
-    /// The letters that came since this was last called, in the order of each lane.
-    pub fn take_came(&mut self) -> Vec<Came> {
-        mem::replace(&mut self.came, Vec::new(self.alloc))
+    /// The letters that came of a member on a lane since this was last called, in order.
+    pub fn take_letters(&mut self, member: u8, lane: LaneKind) -> Vec<Message> {
+        let none = Vec::new(self.alloc);
+        let Some(peer) = self.peer_index(member) else {
+            return none;
+        };
+        match self.letters.get_mut(lane_index(peer, lane)) {
+            Some(letters) => mem::replace(letters, none),
+            None => none,
+        }
     }
 
     /// So many bytes of letters of a member are done with: its lane may be read again.
@@ -467,7 +375,7 @@ impl PeerLoop {
     }
 
     /// The connection at this place has ended, or what came on it is not right.
-    fn close(&mut self, token: usize, now: u64) {
+    pub(crate) fn close(&mut self, token: usize, now: u64) {
         match place_of(token, self.in_lanes.len()) {
             Place::Out(at) => self.lose_out(at, now),
             Place::In(at) => {
@@ -479,237 +387,4 @@ impl PeerLoop {
             Place::Stranger(at) => self.leave(at),
         }
     }
-
-    /// One write and one read.
-    fn step<R: RandomSource>(&mut self, rt: &R, token: usize, now: u64) -> After {
-        match place_of(token, self.in_lanes.len()) {
-            Place::Out(at) => self.step_out(rt, at, now),
-            Place::In(at) => self.step_in(token, at, now),
-            Place::Stranger(at) => self.step_stranger(rt, token, at, now),
-        }
-    }
-
-    /// A connection to a peer: its hello is said once it is there, and then it is read and written.
-    fn step_out<R: RandomSource>(&mut self, rt: &R, at: usize, now: u64) -> After {
-        let (Some(lane), Some(Some(socket))) = (
-            self.out_lanes.get_mut(at),
-            self.sockets.get_mut(at),
-        ) else {
-            return After::Rest;
-        };
-        if lane.is_connecting() {
-            return match socket.is_made() {
-                After::Again => self.greet(rt, at, now),
-                after => after,
-            };
-        }
-        if lane.fill(self.alloc, now).is_err() {
-            return After::Close;
-        }
-        let written = socket.write_out(lane);
-        match socket.read(self.alloc, self.buffer.as_mut_slice()) {
-            Piece::Nothing => written,
-            Piece::End => After::Close,
-            Piece::Bytes(bytes) => hear_out(self.alloc, now, &self.id, lane, bytes.as_slice()),
-        }
-    }
-
-    /// Says the hello of a lane whose connection is there.
-    fn greet<R: RandomSource>(&mut self, rt: &R, at: usize, now: u64) -> After {
-        let (Some(lane), Some(peer)) = (self.out_lanes.get_mut(at), self.peers.get(at / 2)) else {
-            return After::Close;
-        };
-        let Some(random) = random_bytes(rt) else {
-            return After::Close;
-        };
-        let hello = self.id.hello(peer.id, lane_at(at), random);
-        let Ok(bytes) = hello.to_bytes(self.alloc) else {
-            return After::Close;
-        };
-        match lane.greet(self.alloc, now, peer.id, lane_at(at), bytes) {
-            Ok(()) => After::Again,
-            Err(_) => After::Close,
-        }
-    }
-
-    /// A connection of a peer: letters come, and acknowledgements go.
-    fn step_in(&mut self, token: usize, at: usize, now: u64) -> After {
-        let (Some(lane), Some(Some(socket))) = (
-            self.in_lanes.get_mut(at),
-            self.sockets.get_mut(token),
-        ) else {
-            return After::Rest;
-        };
-        if lane.fill(self.alloc, now).is_err() {
-            return After::Close;
-        }
-        let written = socket.write_in(lane);
-        if !lane.wants_reads() {
-            return written;
-        }
-        match socket.read(self.alloc, self.buffer.as_mut_slice()) {
-            Piece::Nothing => written,
-            Piece::End => After::Close,
-            Piece::Bytes(bytes) => self.hear_in(at, now, bytes.as_slice()),
-        }
-    }
-
-    /// Bytes come on a lane from a peer.
-    fn hear_in(&mut self, at: usize, now: u64, bytes: &[u8]) -> After {
-        let (Some(lane), Some(peer)) = (self.in_lanes.get_mut(at), self.peers.get(at / 2)) else {
-            return After::Close;
-        };
-        let mut letters = Vec::new(self.alloc);
-        let heard = lane.hear(self.alloc, now, bytes, &mut letters);
-        for letter in letters {
-            let came = Came {
-                peer: peer.id,
-                lane: lane_at(at),
-                text: letter.into_text(),
-            };
-            if self.came.push(came).is_err() {
-                return After::Close;
-            }
-        }
-        match heard {
-            Ok(()) => After::Again,
-            Err(_) => After::Close,
-        }
-    }
-
-    /// A connection whose hellos are not over.
-    fn step_stranger<R: RandomSource>(
-        &mut self,
-        rt: &R,
-        token: usize,
-        at: usize,
-        now: u64,
-    ) -> After {
-        let (Some(waits), Some(Some(socket))) = (
-            self.waits.get_mut(at),
-            self.sockets.get_mut(token),
-        ) else {
-            return After::Rest;
-        };
-        let written = socket.write_waiting(waits);
-        match socket.read(self.alloc, self.buffer.as_mut_slice()) {
-            Piece::Nothing => written,
-            Piece::End => After::Close,
-            Piece::Bytes(bytes) => self.hear_stranger(rt, at, now, bytes.as_slice()),
-        }
-    }
-
-    /// Bytes of a hello come.
-    fn hear_stranger<R: RandomSource>(
-        &mut self,
-        rt: &R,
-        at: usize,
-        now: u64,
-        bytes: &[u8],
-    ) -> After {
-        let mut rest = bytes;
-        for _ in 0..2 {
-            let Some(taken) = self.take_hello(rt, at, rest) else {
-                return After::Close;
-            };
-            let Some((_, behind)) = rest.split_at_checked(taken) else {
-                return After::Close;
-            };
-            rest = behind;
-        }
-        match self
-            .strangers
-            .get_mut(at)
-            .map(|stranger| stranger.admitted())
-        {
-            Some(Ok(Some(who))) => self.let_in(at, now, &who, rest),
-            Some(Ok(None)) => After::Again,
-            _ => After::Close,
-        }
-    }
-
-    /// Takes bytes of a hello or of a tag, and answers the hello if it is whole with them: how many.
-    fn take_hello<R: RandomSource>(&mut self, rt: &R, at: usize, bytes: &[u8]) -> Option<usize> {
-        let stranger = self.strangers.get_mut(at)?;
-        let taken = stranger.take(bytes).ok()?;
-        if let Some(answer) = stranger.answer(self.alloc, random_bytes(rt)?).ok()? {
-            self.waits.get_mut(at)?.push(answer).ok()?;
-        }
-        Some(taken)
-    }
-
-    /// A stranger is a peer: its connection is that of its lane from now on, in place of one before.
-    fn let_in(&mut self, at: usize, now: u64, who: &Admitted, rest: &[u8]) -> After {
-        let lanes = self.in_lanes.len();
-        let Some(index) = self
-            .peer_index(who.from)
-            .map(|peer| lane_index(peer, who.lane))
-        else {
-            return After::Close;
-        };
-        let (Some(lane), Some(waits)) = (self.in_lanes.get_mut(index), self.waits.get_mut(at))
-        else {
-            return After::Close;
-        };
-        let most = match who.lane {
-            LaneKind::Quick => LaneBounds::QUICK.most_letter_bytes,
-            LaneKind::Bulk => self.bulk.most_letter_bytes,
-        };
-        let waits = mem::replace(waits, Backlog::new(self.alloc));
-        if lane.admit(self.alloc, now, who, most, waits).is_err() {
-            return After::Close;
-        }
-        self.strangers.leave(at);
-        self.move_socket(
-            token_of(Place::Stranger(at), lanes),
-            token_of(Place::In(index), lanes),
-        );
-        if self.hear_in(index, now, rest) == After::Close {
-            self.close(token_of(Place::In(index), lanes), now);
-        }
-        self.has_more = true;
-        After::Rest
-    }
-
-    /// The connection at one place is at another one from now on, and what was there is closed.
-    fn move_socket(&mut self, from: usize, to: usize) {
-        let moved = match self.sockets.get_mut(from) {
-            Some(place) => place.take(),
-            None => None,
-        };
-        let Some(mut socket) = moved else {
-            return;
-        };
-        if socket.rename(&self.poll, to).is_err() {
-            return;
-        }
-        if let Some(place) = self.sockets.get_mut(to) {
-            *place = Some(socket);
-        }
-    }
-}
-
-/// Bytes come on a lane to a peer.
-fn hear_out(alloc: Global, now: u64, id: &Identity, lane: &mut OutLane, bytes: &[u8]) -> After {
-    let mut rest = bytes;
-    for _ in 0..2 {
-        if rest.is_empty() {
-            return After::Again;
-        }
-        let Ok(count) = lane.hear(alloc, now, id, rest) else {
-            return After::Close;
-        };
-        let Some((_, behind)) = rest.split_at_checked(count) else {
-            return After::Close;
-        };
-        rest = behind;
-    }
-    After::Again
-}
-
-/// Bytes at random.
-fn random_bytes<R: RandomSource>(rt: &R) -> Option<[u8; RANDOM_BYTES]> {
-    let mut random = [0u8; RANDOM_BYTES];
-    rt.fill_bytes(&mut random).ok()?;
-    Some(random)
 }
