@@ -13,7 +13,9 @@
 
 mod peer_loop;
 mod places;
+mod setup;
 mod socket;
+mod visits;
 
 pub use peer_loop::PeerLoop;
 pub use setup::Setup;
