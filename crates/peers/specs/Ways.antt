@@ -21,10 +21,13 @@ pub record HasHeard (most : ℕ) (key all : List ℕ) (messages : List Numbered)
   pub opened : HasOpened key all pieces i.opener
   pub read : HasReadMessages most (bytes_of_pieces pieces) messages i.reader
 
--- more bytes came, and with them more messages, whatever came before
+-- more messages were read, after these, and are behind others
+abbrev pub HearsMore : ℕ → List ℕ → List ℕ → List Numbered → List Numbered → List Numbered → IncomingView → Type 0
+HearsMore most key all before old new i = (more : List Numbered) × (new ≡ old ++ more) × HasHeard most key all (before ++ more) i
+
+-- bytes came, and with them these messages, whatever came before
 abbrev pub Hears : IncomingView → List ℕ → List Numbered → IncomingView → Type 0
-Hears old bytes messages new =
-    (most : ℕ) (key all : List ℕ) (before : List Numbered) → HasHeard most key all before old → HasHeard most key (all ++ bytes) (before ++ messages) new
+Hears old bytes messages new = (most : ℕ) (key all : List ℕ) (before : List Numbered) → HasHeard most key all before old → HasHeard most key (all ++ bytes) (before ++ messages) new
 
 -- ---- what goes
 

@@ -4,7 +4,7 @@ ghost use Rattle.std.specs.Prelude.{◌≡◌, ◌++◌, ℕ, List, [], None, On
 ghost use Rattle.links.specs.Numbered.{Numbered};
 ghost use Rattle.links.specs.Pieces.{bytes_of_pieces};
 ghost use Rattle.links.specs.Reading.{HasReadMessages, ReadsMore};
-ghost use Rattle.peers.specs.Ways.{HasHeard, Hears};
+ghost use Rattle.peers.specs.Ways.{HasHeard, HearsMore};
 
 use crate::fault::PeerFault;
 use links::{Message, MessageReader};
@@ -72,7 +72,7 @@ impl Incoming {
         bytes: &[u8],
         messages: &mut Vec<Message>,
     ) -> Result<(), PeerFault>
-        ensures heard { (more : List Numbered) × (messages.new.items ≡ messages.old.items ++ more) × Hears self.old bytes.now more self.new }
+        ensures heard { (most : ℕ) (key all : List ℕ) (before : List Numbered) → HasHeard most key all before self.old → HearsMore most key (all ++ bytes.now) before messages.old.items messages.new.items self.new }
         ensures ok { OnOk result ((self.new.opener.end ≡ None) × (self.new.reader.end ≡ None)) }
     {
         let mut pieces = Vec::new(alloc);

@@ -1,6 +1,6 @@
 //! The way of a connection on which messages go.
 
-ghost use Rattle.std.specs.Prelude.{◌≡◌, ◌≤◌, ◌↔◌, [], ◌∷◌, length, take, drop, IsTrue, IfOk, OnOk, OnErr, MatchResult};
+ghost use Rattle.std.specs.Prelude.{◌≡◌, ◌≤◌, ◌-◌, ◌↔◌, [], ◌∷◌, length, take, IsTrue, IfOk, OnOk, OnErr, MatchResult};
 ghost use Rattle.std.specs.Io.KnownBytes.{Appends, Keeps};
 ghost use Rattle.peers.specs.Ways.{HasSaid, Says};
 ghost use Rattle.peers.specs.declared.limits.TheConstants.{MOST_COLLECTED};
@@ -88,10 +88,10 @@ impl Outgoing {
     /// Seals the next piece.
     fn seal_next(&mut self, alloc: Global) -> Result<(), PeerFault>
         ensures sealed { OnOk result (Says self.old [] [] self.new) }
-        ensures plain { OnOk result (self.new.plain ≡ drop MOST_PIECE_BYTES self.old.plain) }
+        ensures plain { OnOk result (length self.new.plain ≡ length self.old.plain - MOST_PIECE_BYTES) }
     {
-        let piece = self.plain.front(MOST_PIECE_BYTES);
-        let count = piece.len();
+        let count = self.plain.len().min(MOST_PIECE_BYTES);
+        let piece = self.plain.front(count);
         let frame = self.sealer.seal(alloc, piece)?;
         self.waits.push(frame)?;
         self.plain.pass(count);

@@ -1,8 +1,8 @@
 //! A connection whose hellos are over.
 
-ghost use Rattle.std.specs.Prelude.{◌≡◌, ◌≤◌, ◌+◌, ◌^◌, ◌-◌, ◌++◌, ◌↔◌, List, [], ◌∷◌, min, IsTrue, OnOk};
+ghost use Rattle.std.specs.Prelude.{ℕ, ◌≡◌, ◌≤◌, ◌+◌, ◌^◌, ◌-◌, ◌++◌, ◌↔◌, List, [], ◌∷◌, min, IsTrue, OnOk};
 ghost use Rattle.links.specs.Numbered.{Numbered};
-ghost use Rattle.peers.specs.Ways.{HasHeard, HasSaid, Hears, Says};
+ghost use Rattle.peers.specs.Ways.{HasHeard, HasSaid, HearsMore, Says};
 ghost use Rattle.peers.specs.declared.limits.TheConstants.{BEAT, MOST_SILENCE};
 ghost use Rattle.links.specs.declared.message.TheConstants.{HEARTBEAT};
 
@@ -102,7 +102,7 @@ impl Wire {
         bytes: &[u8],
         messages: &mut Vec<Message>,
     ) -> Result<(), PeerFault>
-        ensures heard { (more : List Numbered) × (messages.new.items ≡ messages.old.items ++ more) × Hears self.old.incoming bytes.now more self.new.incoming }
+        ensures heard { (most : ℕ) (key all : List ℕ) (before : List Numbered) → HasHeard most key all before self.old.incoming → HearsMore most key (all ++ bytes.now) before messages.old.items messages.new.items self.new.incoming }
         ensures others { self.new ≡ record self.old { incoming = self.new.incoming; heard = now } }
     {
         self.heard = now;
