@@ -76,7 +76,7 @@ impl Backlog {
         ensures { result.now ≡ take most self.now }
     {
         let (_, rest) = self.bytes.split_at(self.gone);
-        let (front, _) = rest.split_at(rest.len().min(most));
+        let (front, _) = rest.split_at(most.min(rest.len()));
         front
     }
 

@@ -197,6 +197,8 @@ pub struct Ends {
     pub back: Way,
     pub now: u64,
     pub connections: u32,
+    /// The newest connection is lost: what is written on it comes nowhere.
+    pub is_cut: bool,
 }
 
 impl Ends {
@@ -208,6 +210,7 @@ impl Ends {
             back: Way::new(alloc),
             now: 0,
             connections: 0,
+            is_cut: true,
         }
     }
 
@@ -224,14 +227,16 @@ impl Ends {
 
     fn connect(&mut self, alloc: Global) -> Option<()> {
         self.connections = self.connections.saturating_add(1);
+        self.is_cut = false;
         self.there = Way::new(alloc);
         self.back = Way::new(alloc);
         self.receiver.accept(alloc, self.now);
         self.sender.greet(alloc, self.now, self.connections)
     }
 
-    /// What is under way is lost.
+    /// The connection is lost, and what is under way on it.
     pub fn cut(&mut self, alloc: Global) {
+        self.is_cut = true;
         self.there = Way::new(alloc);
         self.back = Way::new(alloc);
         self.receiver.stranger = None;
@@ -241,7 +246,11 @@ impl Ends {
     /// Both write what they have.
     pub fn write(&mut self, alloc: Global) -> Option<()> {
         self.sender.write(alloc, self.now, &mut self.there)?;
-        self.receiver.write(alloc, self.now, &mut self.back)
+        self.receiver.write(alloc, self.now, &mut self.back)?;
+        if self.is_cut {
+            self.cut(alloc);
+        }
+        Some(())
     }
 
     /// Bytes come to both, at most so many: whether they are right.
