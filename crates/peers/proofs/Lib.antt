@@ -1,2 +1,3 @@
+mod HelloLemmas
 mod LaneLemmas
 mod WayLemmas

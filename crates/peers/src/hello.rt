@@ -2,7 +2,7 @@
 
 ghost use Rattle.std.specs.Prelude.{◌≡◌, IfOk, IfSome, IfNone};
 ghost use Rattle.peers.specs.declared.hello.Hello.{Hello};
-ghost use Rattle.peers.specs.Hello.{hello_text, lane_byte};
+ghost use Rattle.peers.specs.Hello.{IsHello, hello_text, lane_byte};
 
 use std::alloc::{AllocError, Global};
 
@@ -83,8 +83,8 @@ impl Hello {
 
     /// The hello of these bytes. None: they are the bytes of no hello of this version.
     pub fn read(bytes: &[u8]) -> Option<Hello>
-        ensures some { IfSome result (λ hello. bytes.now ≡ hello_text hello) }
-        ensures none { IfNone result ((hello : Hello) → bytes.now ≡ hello_text hello → ⊥) }
+        ensures some { IfSome result (λ hello. (bytes.now ≡ hello_text hello) × IsHello hello) }
+        ensures none { IfNone result ((hello : Hello) → IsHello hello → bytes.now ≡ hello_text hello → ⊥) }
     {
         let (front, rest) = bytes.split_first_chunk::<6>()?;
         let (site, rest) = rest.split_first_chunk::<16>()?;
