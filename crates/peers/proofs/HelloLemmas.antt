@@ -6,7 +6,8 @@ use Rattle.std.proofs.lemmas.Nat.{be_bytes_8}
 use Rattle.std.proofs.lemmas.List.{length-append, length-take, length-take-le, length-drop, get_or-take, get_or-drop, get_or_past, take_at, drop_at, take-append-drop}
 use Rattle.peers.specs.declared.hello.Hello.{Hello}
 use Rattle.peers.specs.declared.hello.TheConstants.{FRONT, HELLO_BYTES}
-use Rattle.peers.specs.Hello.{hello_text, lane_byte, IsHello}
+use Rattle.peers.specs.Hello.{hello_text, lane_byte}
+use Rattle.peers.specs.HelloParts.{IsHello}
 
 -- both members and the lane
 abbrev pub ends_of : Hello → List ℕ
@@ -14,7 +15,9 @@ ends_of h = h.from ∷ h.to ∷ lane_byte h.lane ∷ []
 
 -- what is behind the front, behind the site, behind the ends
 behind_front : Hello → List ℕ
+
 behind_site : Hello → List ℕ
+
 behind_ends : Hello → List ℕ
 behind_ends h = to_be_bytes w64 h.life ++ h.random
 behind_site h = ends_of h ++ behind_ends h
@@ -44,9 +47,16 @@ module _ (bytes : List ℕ) (h : Hello) (is : IsHello h) (e : bytes ≡ hello_te
   pub long : length bytes ≡ HELLO_BYTES
   unfolding hello_text
   long =
-      omega (arith, ap length e, is.site, is.random, length-append FRONT (h.site ++ (ends_of h ++ (to_be_bytes w64 h.life ++ h.random))),
-      length-append h.site (ends_of h ++ (to_be_bytes w64 h.life ++ h.random)), length-append (ends_of h) (to_be_bytes w64 h.life ++ h.random),
-      length-append (to_be_bytes w64 h.life) h.random)
+      omega (
+        arith,
+        ap length e,
+        is.site,
+        is.random,
+        length-append FRONT (h.site ++ (ends_of h ++ (to_be_bytes w64 h.life ++ h.random))),
+        length-append h.site (ends_of h ++ (to_be_bytes w64 h.life ++ h.random)),
+        length-append (ends_of h) (to_be_bytes w64 h.life ++ h.random),
+        length-append (to_be_bytes w64 h.life) h.random,
+      )
 
 are_bytes-take : (n : ℕ) (bytes : List ℕ) → ((i : ℕ) → get_or bytes i 0 < 256) → (i : ℕ) → get_or (take n bytes) i 0 < 256
 are_bytes-take n bytes h i =

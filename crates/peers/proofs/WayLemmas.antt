@@ -31,7 +31,7 @@ reads_more r s t first second old mid new f g most all before h =
       one.0 ++ two.0,
       two.1 ∙ (ap (λ ms. ms ++ two.0) one.1 ∙ append_assoc old one.0 two.0),
       subst (λ (xs : List ℕ). HasReadMessages most xs (before ++ (one.0 ++ two.0)) t) (append_assoc all first second)
-      (subst (λ (ms : List Numbered). HasReadMessages most ((all ++ first) ++ second) ms t) (append_assoc before one.0 two.0) two.2),
+          (subst (λ (ms : List Numbered). HasReadMessages most ((all ++ first) ++ second) ms t) (append_assoc before one.0 two.0) two.2),
     )
 
 pub bytes-push : (pieces : List (List ℕ)) (piece : List ℕ) → bytes_of_pieces (pieces ++ piece ∷ []) ≡ bytes_of_pieces pieces ++ piece

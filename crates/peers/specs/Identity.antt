@@ -9,7 +9,7 @@ use Rattle.peers.specs.declared.identity.Identity.{Identity}
 use Rattle.peers.specs.declared.identity.SiteKeys.{SiteKeys}
 use Rattle.peers.specs.declared.greeting.Greeted.{Greeted}
 use Rattle.peers.specs.declared.stranger.Admitted.{Admitted}
-use Rattle.peers.specs.Hello.{IsHello, hello_text}
+use Rattle.peers.specs.Hello.{hello_text}
 
 -- a hello of another member of the site, for this one
 pub record IsForMember (id : Identity) (h : Hello) : Type 0 where
@@ -27,7 +27,6 @@ IsSiteKey keys key = (key ≡ keys.first) ⊎ (keys.second ≡ Some key)
 pub record IsAnswered (id : Identity) (peer : ℕ) (lane : LaneKind) (hello came : List ℕ) (g : Greeted) : Type 0 where
   pub reply : Hello
   pub reply_is : take HELLO_BYTES came ≡ hello_text reply
-  pub is_hello : IsHello reply
   pub is_for : IsForMember id reply
   pub from_is : reply.from ≡ peer
   pub lane_is : reply.lane ≡ lane
@@ -42,7 +41,6 @@ pub record IsAnswered (id : Identity) (peer : ℕ) (lane : LaneKind) (hello came
 pub record IsAnswerTo (id : Identity) (hello answer : List ℕ) (a : Admitted) : Type 0 where
   pub said : Hello
   pub said_is : hello ≡ hello_text said
-  pub is_hello : IsHello said
   pub is_for : IsForMember id said
   pub from_is : a.from ≡ said.from
   pub lane_is : a.lane ≡ said.lane

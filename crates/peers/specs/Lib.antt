@@ -1,5 +1,6 @@
 pub mod Greeting
 pub mod Hello
+pub mod HelloParts
 pub mod Identity
 pub mod Lanes
 pub mod Stranger

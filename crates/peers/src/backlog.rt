@@ -55,7 +55,7 @@ impl Backlog {
     pub fn is_empty(&self) -> bool
         ensures { IsTrue result ↔ (self.now ≡ []) }
     {
-        self.bytes.len() == self.gone
+        self.len() == 0
     }
 
     /// These wait too, behind the others. The only error is a failed allocation.
@@ -80,18 +80,26 @@ impl Backlog {
         front
     }
 
-    /// The first bytes are gone, so many. If none is left their memory is given back.
-    pub fn pass(&mut self, count: usize)
-        requires { count ≤ length self.old }
-        ensures { self.new ≡ drop count self.old }
+    /// Gives back the memory of bytes that are gone, if none waits.
+    fn tidy(&mut self)
+        ensures { self.new ≡ self.old }
     {
-        self.gone += count;
         if self.gone == self.bytes.len() {
             let alloc = *self.bytes.allocator();
             self.gone = 0;
             drop(mem::replace(&mut self.bytes, Vec::new(alloc)));
         }
     }
+
+    /// The first bytes are gone, so many.
+    pub fn pass(&mut self, count: usize)
+        requires { count ≤ length self.old }
+        ensures { self.new ≡ drop count self.old }
+    {
+        self.gone += count;
+        self.tidy();
+    }
+
     /// One write of the first bytes that wait, at most 65,536 of them. Those that were taken are gone.
     pub fn write<W: Write>(&mut self, to: &mut W) -> io::Result<usize>
         ensures count { IfOk result (λ n. n ≤ length self.old) }
@@ -99,8 +107,11 @@ impl Backlog {
         ensures err { OnErr result (self.new ≡ self.old) }
         ensures bytes { MatchResult result (λ n. Appends (W.contents to.old) (W.contents to.new) (take n self.old)) (λ _. Keeps (W.contents to.old) (W.contents to.new)) }
     {
-        let count = to.write(self.front(MOST_WRITE_BYTES))?;
-        self.pass(count);
+        let (_, rest) = self.bytes.split_at(self.gone);
+        let (piece, _) = rest.split_at(rest.len().min(MOST_WRITE_BYTES));
+        let count = to.write(piece)?;
+        self.gone += count;
+        self.tidy();
         Ok(count)
     }
 }

@@ -2,7 +2,8 @@
 
 ghost use Rattle.std.specs.Prelude.{◌≡◌, IfOk, IfSome, IfNone};
 ghost use Rattle.peers.specs.declared.hello.Hello.{Hello};
-ghost use Rattle.peers.specs.Hello.{IsHello, hello_text, lane_byte};
+ghost use Rattle.peers.specs.Hello.{hello_text, lane_byte};
+ghost use Rattle.peers.specs.HelloParts.{IsHello};
 
 use std::alloc::{AllocError, Global};
 

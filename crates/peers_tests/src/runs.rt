@@ -7,7 +7,7 @@ use std::alloc::Global;
 
 /// How many bytes the letter after so many others has. Some have several pieces.
 fn size_after(count: usize) -> usize {
-    if count % 40 == 39 { 65_536 } else { count % 53 }
+    if count % 97 == 50 { 65_536 } else { count % 53 }
 }
 
 /// The byte of which the letter after so many others is made.
@@ -76,7 +76,7 @@ impl Run {
 
     /// Nothing is lost any more, and time passes.
     fn settle(&mut self, alloc: Global) -> Option<()> {
-        for _ in 0..400 {
+        for _ in 0..150 {
             self.pass(alloc, 50)?;
             self.ends.write(alloc)?;
             self.come(alloc, 1_000_000)?;
@@ -121,9 +121,9 @@ fn comes_through(alloc: Global, seed: u32, steps: usize) -> Option<bool> {
 
 #[test]
 fn letters_come_through_whatever_is_lost(rt: HostRuntime) {
-    for seed in 0..20u32 {
+    for seed in 0..8u32 {
         assert!(rt;
-            comes_through(rt.alloc(), seed, 600) == Some(true),
+            comes_through(rt.alloc(), seed, 300) == Some(true),
             "{seed}"
         );
     }
