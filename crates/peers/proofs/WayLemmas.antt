@@ -1,12 +1,13 @@
 -- Messages come and go on a connection.
 use Rattle.std.proofs.Common.{◌≡◌, ℕ, suc, ◌+◌, ◌≤◌, ◌<◌, List, [], ◌∷◌, ◌++◌, length, take, drop, Some, refl, sym, ap, ◌∙◌, subst, arith}
 use Rattle.std.specs.List.{flat_map}
-use Rattle.std.proofs.lemmas.List.{append_assoc, append-nil, length_push, take-append-drop}
+use Rattle.std.proofs.lemmas.List.{append_assoc, append-nil, length-append, length_push, take-append-drop}
 use Rattle.std.proofs.lemmas.List.Concat.{flat_map-append}
 use Rattle.std.proofs.lemmas.List.Elements.{All-nil, All-push}
 use Rattle.seals.specs.declared.sealer.Sealer.{Sealer}
 use Rattle.seals.specs.declared.frame.TheConstants.{MOST_PIECE_BYTES}
-use Rattle.seals.specs.Frame.{frame, frames}
+use Rattle.std.specs.Int.{w32, to_be_bytes}
+use Rattle.seals.specs.Frame.{frame, frames, with_length, tag_behind}
 use Rattle.seals.specs.Opening.{HasOpened, OpensMore}
 use Rattle.links.specs.Numbered.{Numbered}
 use Rattle.links.specs.Message.{message_text}
@@ -71,6 +72,12 @@ frames-push key number (p ∷ pieces) piece =
     let same : (number + 1) + length pieces ≡ number + suc (length pieces) = omega arith in
     ap (λ xs. frame key number p ++ xs) (frames-push key (number + 1) pieces piece ∙ ap (λ n. frames key (number + 1) pieces ++ frame key n piece) same)
     ∙ sym (append_assoc (frame key number p) (frames key (number + 1) pieces) (frame key (number + suc (length pieces)) piece))
+
+-- a frame has bytes
+pub frame_some : (key : List ℕ) (number : ℕ) (piece : List ℕ) → 0 < length (frame key number piece)
+unfolding with_length
+frame_some key number piece =
+    omega (arith, length-append (with_length piece) (tag_behind key number (with_length piece)), length-append (to_be_bytes w32 (length piece)) piece)
 
 pub texts-push : (messages : List Numbered) (m : Numbered) → flat_map message_text (messages ++ m ∷ []) ≡ flat_map message_text messages ++ message_text m
 texts-push messages m = flat_map-append message_text messages (m ∷ []) ∙ ap (λ xs. flat_map message_text messages ++ xs) (append-nil (message_text m))

@@ -125,7 +125,8 @@ fn hand_out_all(
         if outgoing.is_full() {
             break;
         }
-        let Some((number, text)) = sending.hand_out()? else {
+        let found = sending.hand_out()?;
+        let Some((number, text)) = found else {
             break;
         };
         outgoing.say(alloc, number, &text)?;

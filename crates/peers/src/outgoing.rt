@@ -1,6 +1,6 @@
 //! The way of a connection on which messages go.
 
-ghost use Rattle.std.specs.Prelude.{◌≡◌, ◌≤◌, ◌-◌, ◌↔◌, [], ◌∷◌, length, take, IsTrue, IfOk, OnOk, OnErr, MatchResult};
+ghost use Rattle.std.specs.Prelude.{◌≡◌, ◌≤◌, ◌<◌, ◌-◌, ◌↔◌, [], ◌∷◌, length, take, IsTrue, IfOk, OnOk, OnErr, MatchResult};
 ghost use Rattle.std.specs.Io.KnownBytes.{Appends, Keeps};
 ghost use Rattle.peers.specs.Ways.{HasSaid, Says};
 ghost use Rattle.peers.specs.declared.limits.TheConstants.{MOST_COLLECTED};
@@ -89,6 +89,7 @@ impl Outgoing {
     fn seal_next(&mut self, alloc: Global) -> Result<(), PeerFault>
         ensures sealed { OnOk result (Says self.old [] [] self.new) }
         ensures plain { OnOk result (length self.new.plain ≡ length self.old.plain - MOST_PIECE_BYTES) }
+        ensures more { OnOk result (length self.old.waits < length self.new.waits) }
     {
         let count = self.plain.len().min(MOST_PIECE_BYTES);
         let piece = self.plain.front(count);
@@ -98,23 +99,32 @@ impl Outgoing {
         Ok(())
     }
 
-    /// Seals the next pieces of what was said, if nothing waits to be written. After an error the connection is to be closed.
-    ///
-    /// Seal: no number is left for a piece. NoMemory.
-    pub fn seal(&mut self, alloc: Global) -> Result<(), PeerFault>
+    /// Seals some more pieces, if there are some.
+    fn seal_on(&mut self, alloc: Global) -> Result<(), PeerFault>
         ensures sealed { OnOk result (Says self.old [] [] self.new) }
-        ensures some { OnOk result (self.new.waits ≡ [] → self.new.plain ≡ []) }
+        ensures more { OnOk result (length self.old.waits ≤ length self.new.waits) }
     {
-        if !self.waits.is_empty() {
-            return Ok(());
-        }
-        for _ in 0..MOST_PIECES {
+        for _ in 1..MOST_PIECES {
             if self.plain.is_empty() {
                 break;
             }
             self.seal_next(alloc)?;
         }
         Ok(())
+    }
+
+    /// Seals the next pieces of what was said, if nothing waits to be written. After an error the connection is to be closed.
+    ///
+    /// Seal: no number is left for a piece. NoMemory.
+    pub fn seal(&mut self, alloc: Global) -> Result<(), PeerFault>
+        ensures sealed { OnOk result (Says self.old [] [] self.new) }
+        ensures some { OnOk result (length self.new.waits ≡ 0 → self.new.plain ≡ []) }
+    {
+        if 0 < self.waits.len() || self.plain.is_empty() {
+            return Ok(());
+        }
+        self.seal_next(alloc)?;
+        self.seal_on(alloc)
     }
 
     /// One write of what is to be written next, at most 65,536 bytes. Those that were taken are written.

@@ -14,7 +14,7 @@ loop-piece-preserved c =
     let pieces : List (List ℕ) = c.args.pieces.now in
     let piece : List ℕ = c.piece-item.result in
     let more : bytes_of_pieces (take (n + 1) pieces) ≡ bytes_of_pieces (take n pieces) ++ piece =
-    ap bytes_of_pieces (take_more pieces n [] c.loop-piece-test.true) ∙ (ap (λ (p : List ℕ). bytes_of_pieces (take n pieces ++ p ∷ [])) (sym c.piece-item.is) ∙ bytes-push (take n pieces) piece) in
+    ap bytes_of_pieces (take_more pieces n piece c.loop-piece-test.true) ∙ (ap (λ (p : List ℕ). bytes_of_pieces (take n pieces ++ p ∷ [])) (sym c.piece-item.is) ∙ bytes-push (take n pieces) piece) in
     subst (λ (xs : List ℕ). Reads c.args.reader.now xs c.args.messages.now.items c.feed.new.messages.items c.feed.new.self) (sym more)
     (reads_more c.args.reader.now loop.reader c.feed.new.self (bytes_of_pieces (take n pieces)) piece c.args.messages.now.items loop.messages.items c.feed.new.messages.items loop.invariant
     (subst (λ (xs : List ℕ). Reads loop.reader xs loop.messages.items c.feed.new.messages.items c.feed.new.self) c.as_slice.ensures.items c.feed.ensures.read))

@@ -12,7 +12,7 @@ loop-message-preserved c =
     let n : ℕ = loop.message-index in
     let messages : List Numbered = c.args.messages.now in
     let message : Numbered = c.message-item.result in
-    let more : take (n + 1) messages ≡ take n messages ++ message ∷ [] = take_more messages n (0, []) c.loop-message-test.true ∙ ap (λ (m : Numbered). take n messages ++ m ∷ []) (sym c.message-item.is) in
+    let more : take (n + 1) messages ≡ take n messages ++ message ∷ [] = take_more messages n message c.loop-message-test.true ∙ ap (λ (m : Numbered). take n messages ++ m ∷ []) (sym c.message-item.is) in
     c.in_ok-acknowledge.ensures.ok
     ∙ (ap (λ k. with_acknowledged k loop.sending) c.number.ensures
     ∙ (ap (λ s. with_acknowledged message.0 s) loop.invariant
