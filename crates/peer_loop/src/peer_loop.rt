@@ -100,7 +100,8 @@ impl PeerLoop {
         poll.registry()
             .register(&mut listener, LISTENER, Interest::READABLE)?;
         let peers = other_members(alloc, setup)?;
-        let places = peers.len().saturating_mul(4).saturating_add(MOST_STRANGERS);
+        let lanes = peers.len().saturating_mul(2);
+        let places = lanes.saturating_mul(2).saturating_add(MOST_STRANGERS);
         Ok(PeerLoop {
             alloc,
             poll,

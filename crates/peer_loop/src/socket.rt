@@ -125,8 +125,8 @@ impl Socket {
     }
 
     /// What follows a write.
-    fn wrote(&mut self, result: io::Result<usize>) -> After {
-        match result {
+    fn wrote(&mut self, outcome: io::Result<usize>) -> After {
+        match outcome {
             Ok(0) => After::Close,
             Ok(_) => After::Again,
             Err(e) => {
@@ -144,8 +144,8 @@ impl Socket {
         if !self.is_writable || !lane.has_output() {
             return After::Rest;
         }
-        let result = lane.write(&mut self.stream);
-        self.wrote(result)
+        let outcome = lane.write(&mut self.stream);
+        self.wrote(outcome)
     }
 
     /// Writes once what a lane from a peer has.
@@ -153,8 +153,8 @@ impl Socket {
         if !self.is_writable || !lane.has_output() {
             return After::Rest;
         }
-        let result = lane.write(&mut self.stream);
-        self.wrote(result)
+        let outcome = lane.write(&mut self.stream);
+        self.wrote(outcome)
     }
 
     /// Writes once what waits of hellos.
@@ -162,7 +162,7 @@ impl Socket {
         if !self.is_writable || waits.is_empty() {
             return After::Rest;
         }
-        let result = waits.write(&mut self.stream);
-        self.wrote(result)
+        let outcome = waits.write(&mut self.stream);
+        self.wrote(outcome)
     }
 }

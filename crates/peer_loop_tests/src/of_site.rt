@@ -78,7 +78,7 @@ fn come_through<R: Net + Clock + RandomSource>(
 
 const QUICK: [usize; 5] = [0, 1, 100, 65_536, 7];
 
-const BULK: [usize; 2] = [70_000, 20_000_000];
+const BULK: [usize; 2] = [70_000, 1_000_000];
 
 fn goes_through<R: Net + Clock + RandomSource>(rt: &R, alloc: Global) -> Option<bool> {
     let mut site = Site::new(rt, alloc).ok()?;
@@ -99,7 +99,7 @@ fn letters_go_through_a_site(rt: HostRuntime) -> Result<(), Fail> {
 fn short_comes_first<R: Net + Clock + RandomSource>(rt: &R, alloc: Global) -> Option<bool> {
     let mut site = Site::new(rt, alloc).ok()?;
     let connects = site.connect(rt).ok()?;
-    site.push(alloc, 0, 1, 0, 40_000_000)?;
+    site.push(alloc, 0, 1, 0, 2_000_000)?;
     site.push(alloc, 0, 1, 0, 10)?;
     let mut short = Vec::new(alloc);
     let mut long = Vec::new(alloc);

@@ -34,7 +34,8 @@ impl Run {
     /// So many milliseconds pass.
     fn pass(&mut self, alloc: Global, time: u64) -> Option<()> {
         self.ends.now = self.ends.now.saturating_add(time);
-        if self.ends.receiver.lane.tick(self.ends.now) {
+        let closes = self.ends.receiver.lane.tick(self.ends.now);
+        if closes && self.ends.receiver.stranger.is_none() {
             self.ends.cut(alloc);
         }
         self.ends.tick(alloc)?;
@@ -76,8 +77,10 @@ impl Run {
 
     /// Nothing is lost any more, and time passes.
     fn settle(&mut self, alloc: Global) -> Option<()> {
-        for _ in 0..150 {
-            self.pass(alloc, 50)?;
+        for _ in 0..120 {
+            self.pass(alloc, 200)?;
+            self.ends.write(alloc)?;
+            self.come(alloc, 1_000_000)?;
             self.ends.write(alloc)?;
             self.come(alloc, 1_000_000)?;
         }
