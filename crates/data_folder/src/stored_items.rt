@@ -50,12 +50,7 @@ fn page_entries(
 }
 
 /// The page of this number that has its entries. `BadRecord`: some are of another page. `NoMemory` is the only other error.
-fn page_of(
-    alloc: Global,
-    layout: Layout,
-    found: &FoundItems,
-    number: usize,
-) -> Result<Page, Fault>
+fn page_of(alloc: Global, layout: Layout, found: &FoundItems, number: usize) -> Result<Page, Fault>
     requires { number < page_count }
     ensures { IfOk result (λ page. IsOwn number page.items) }
 {

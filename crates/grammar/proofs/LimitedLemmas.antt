@@ -39,11 +39,11 @@ is_byte : (b : ℕ) → b < 256 → nat_lt b 256 ≡ true
 is_byte b lt = grind (arith, nat_tests)
 
 -- bytes alone
-pub read_bytes : (full : Bool) (s : State) (piece : List ℕ) → AreBytes piece → limited_turns full s piece ≡ map (turn_when full) (read_bytes s piece).turns
+pub bytes_read : (full : Bool) (s : State) (piece : List ℕ) → AreBytes piece → limited_turns full s piece ≡ map (turn_when full) (read_bytes s piece).turns
 unfolding limited_turns read_bytes
-read_bytes full s [] bytes = refl
-read_bytes full s (b ∷ piece) bytes =
-    let later = read_bytes full (read_byte s b).state piece (λ i. bytes (suc i)) in
+bytes_read full s [] bytes = refl
+bytes_read full s (b ∷ piece) bytes =
+    let later = bytes_read full (read_byte s b).state piece (λ i. bytes (suc i)) in
     rw (is_byte b (bytes 0))
     (ap (λ (ts : List Turn). map (turn_when full) (read_byte s b).turns ++ ts) later ∙ sym (map-append (turn_when full) (read_byte s b).turns (read_bytes (read_byte s b).state piece).turns))
 

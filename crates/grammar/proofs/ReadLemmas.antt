@@ -22,7 +22,7 @@ use Rattle.grammar.specs.Limit.{turn_when, Limited as LimitedState, without_mark
 use Rattle.grammar.specs.Asks.{SpellsIn, SpellsMemcached, commands_in}
 use Rattle.grammar.specs.Reads.{new_reader, HasReadIn, HasReadLimited, GoesOnReading, ReaderReads, ReadsOnProfile, ReadsOnMemcached, ReadsOnLimited}
 use Rattle.grammar.proofs.TurnLemmas.{some_turns, both_turns, turns_ask}
-use Rattle.grammar.proofs.LimitedLemmas.{room_turns, turns_both, state_both, read_bytes, bytes_lead, mark_turns, mark_state}
+use Rattle.grammar.proofs.LimitedLemmas.{room_turns, turns_both, state_both, bytes_read, bytes_lead, mark_turns, mark_state}
 
 -- ---- turns that are spelled
 
@@ -145,7 +145,7 @@ read_more dialect.Limited old new fed comes turns more h g = record { is = r.is 
     given : limited_turns (limited_state false start fed).full (limited_state false start fed).state comes ≡ map (turn_when r.full) r.read
     given = ap (limited_turns (limited_state false start fed).full (limited_state false start fed).state) r.marked_so
         ∙ (mark_turns (limited_state false start fed).full r.full (limited_state false start fed).state r.piece
-        ∙ (read_bytes r.full (limited_state false start fed).state r.piece r.bytes
+        ∙ (bytes_read r.full (limited_state false start fed).state r.piece r.bytes
         ∙ ap (map (turn_when r.full)) (sym r.reads.turns)))
 
     all : limited_turns false start (fed ++ comes) ≡ limited_turns false start fed ++ map (turn_when r.full) r.read

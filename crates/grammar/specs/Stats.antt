@@ -41,7 +41,7 @@ connection_numbers f =
     ∷ (codes "curr_connections", f.connections.open)
     ∷ (codes "total_connections", f.connections.accepted)
     ∷ (codes "rejected_connections", f.connections.refused)
-    ∷ (codes "read_bytes", f.connections.bytes_read)
+    ∷ (codes "bytes_read", f.connections.bytes_read)
     ∷ (codes "bytes_written", f.connections.bytes_written)
     ∷ []
 

@@ -130,12 +130,18 @@ fn storage_count(commands: &Commands, kind: Kind) -> u64
 fn all_stored(commands: &Commands) -> u64
     ensures { result ≡ spec.all_stored commands.now }
 {
-    let set = plus(storage_count(commands, Kind::Set), storage_count(commands, Kind::Add));
+    let set = plus(
+        storage_count(commands, Kind::Set),
+        storage_count(commands, Kind::Add),
+    );
     let added = plus(
         storage_count(commands, Kind::Append),
         storage_count(commands, Kind::Prepend),
     );
-    let changed = plus(storage_count(commands, Kind::Replace), storage_count(commands, Kind::Cas));
+    let changed = plus(
+        storage_count(commands, Kind::Replace),
+        storage_count(commands, Kind::Cas),
+    );
     plus(plus(set, added), changed)
 }
 

@@ -1,7 +1,8 @@
 -- What is noted of the row at the front, and then of the rest, is noted of all.
-use Rattle.std.proofs.Common.{◌≡◌, inl, inr, ℕ, suc, ◌+◌, ◌<◌, ◌≤◌, true, false, cond, List, [], ◌∷◌, ◌++◌, take, drop, Option, None, Some, refl, sym, ap, ◌∙◌, subst, arith, append-nil, append_assoc}
+use Rattle.std.proofs.Common.{◌≡◌, inl, inr, ℕ, suc, ◌+◌, ◌<◌, ◌≤◌, true, false, cond, List, [], ◌∷◌, ◌++◌, length, take, drop, Option, None, Some, refl, sym, ap, ◌∙◌, subst, arith, append-nil, append_assoc}
 use Rattle.std.specs.Prelude.{◌==◌, if◌then◌else◌, nat_lt}
 use Rattle.std.proofs.lemmas.Bool.Decides.{nat_tests}
+use Rattle.std.proofs.lemmas.List.{length-drop}
 use Rattle.items.specs.declared.item.Item.{Item}
 use Rattle.sqlite_value.specs.Order.{Row}
 use Rattle.item_rows.specs.Row.{row_number_of}
@@ -108,6 +109,28 @@ next p (e ∷ old) (f ∷ new) h r s =
       | false ↦ λ b h. (let is : row_number_of e.0 ≡ p = cc h in let le = lt_false (row_number_of f.0) (row_number_of e.0) b in
           record { olds = all_first p e old (omega (arith, is)) r; news = all_first p f new (omega (arith, is, le)) s; some = omega (arith, some_front p e old is) })
     ] refl h
+
+-- the row that comes next has entries at the front
+some_next : (p : ℕ) (old new : Entries) → lower_row_number (row_number_at_front old) (row_number_at_front new) ≡ Some p → 0 < at_front p old + at_front p new
+some_next p [] [] h = absurd (cc h)
+some_next p [] (f ∷ new) h = omega (arith, some_front p f new (cc h))
+some_next p (e ∷ old) [] h = omega (arith, some_front p e old (cc h))
+some_next p (e ∷ old) (f ∷ new) h =
+    elim (nat_lt (row_number_of f.0) (row_number_of e.0)) as (λ b. Some (if b then row_number_of f.0 else row_number_of e.0) ≡ Some p → 0 < at_front p (e ∷ old) + at_front p (f ∷ new)) [
+      | true ↦ λ h. omega (arith, some_front p f new (cc h))
+      | false ↦ λ h. omega (arith, some_front p e old (cc h))
+    ] h
+
+fits_front : (p : ℕ) (es : Entries) → at_front p es ≤ length es
+fits_front p [] = omega arith
+fits_front p (e ∷ es) =
+    elim (row_number_of e.0 == p) as (λ b. (if b then suc (at_front p es) else 0) ≤ suc (length es)) [ true ↦ omega (arith, fits_front p es) | false ↦ omega arith ]
+
+-- behind it the lists are shorter
+pub shorter_behind : (p : ℕ) (old new o n : Entries) → lower_row_number (row_number_at_front old) (row_number_at_front new) ≡ Some p
+    → o ≡ drop (at_front p old) old → n ≡ drop (at_front p new) new → length o + length n < length old + length new
+shorter_behind p old new o n h is_o is_n =
+    omega (arith, some_next p old new h, fits_front p old, fits_front p new, ap length is_o, ap length is_n, length-drop (at_front p old) old, length-drop (at_front p new) new)
 
 both_empty : (old new : Entries) → lower_row_number (row_number_at_front old) (row_number_at_front new) ≡ None → (old ≡ []) × (new ≡ [])
 both_empty [] [] h = (refl, refl)

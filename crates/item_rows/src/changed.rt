@@ -49,11 +49,7 @@ fn lower(one: Option<u64>, other: Option<u64>) -> Option<u64>
 
 /// How many entries at the front are in this row, and the row number of the one behind them. `first` is that of the first
 /// entry: each row number is computed once, since it takes a hash.
-fn count_at_front(
-    entries: &[Entry<Key, Item>],
-    first: Option<u64>,
-    at: u64,
-) -> (usize, Option<u64>)
+fn count_at_front(entries: &[Entry<Key, Item>], first: Option<u64>, at: u64) -> (usize, Option<u64>)
     requires { first ≡ row_number_at_front entries.now }
     ensures front { result.0 ≡ at_front at entries.now }
     ensures fits { result.0 ≤ length entries.now }
@@ -90,8 +86,8 @@ impl<'a> Rest<'a> {
     /// The entries at the front that are in this row, and what is behind them.
     fn split_row(self, at: u64) -> (&'a [Entry<Key, Item>], Rest<'a>)
         requires { self.first ≡ row_number_at_front self.entries.now }
-        ensures front { result.0.now ≡ take (at_front at self.entries.now) self.entries.now }
-        ensures rest { result.1.entries.now ≡ drop (at_front at self.entries.now) self.entries.now }
+        ensures front { result.0.now ≡ take (at_front at self.entry.entries.now) self.entry.entries.now }
+        ensures rest { result.1.entries.now ≡ drop (at_front at self.entry.entries.now) self.entry.entries.now }
         ensures first { result.1.first ≡ row_number_at_front result.1.entries.now }
     {
         let (count, first) = count_at_front(self.entries, self.first, at);

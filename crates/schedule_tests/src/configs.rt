@@ -12,8 +12,8 @@ fn a_world_has_limits(rt: HostRuntime) -> Result<(), Fail> {
         (4, 1, false),
         (255, 1, false),
         (0, 0, false),
-        (3, 65, false),
-        (3, 65535, false),
+        (3, 65, true),
+        (3, 65535, true),
     ];
     for (u, clients, is_world) in rows {
         match Config::new(u, clients) {

@@ -16,7 +16,7 @@ const ROWS: [Row; 8] = [
     ("status = \"127.0.0.1:11280\"\n", "", Ok(())),
     ("6f1c8a0e", "6f1c8a0f", Err(Changed::Site)),
     ("5968\"", "5969\"", Err(Changed::Site)),
-    ("proxies = 21", "proxies = 20", Err(Changed::Proxies)),
+    ("proxies = 32", "proxies = 20", Err(Changed::Proxies)),
 ];
 
 /// Whether the changed sample is compared so with the sample.

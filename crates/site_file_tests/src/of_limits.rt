@@ -43,7 +43,7 @@ fn is_read_so(alloc: Global, old: &str, new: &str) -> Result<bool, SiteFault> {
 /// Whether so many proxies are read.
 fn are_proxies(alloc: Global, proxies: u16) -> Result<bool, SiteFault> {
     let line = format!(in alloc; "proxies = {proxies}")?;
-    is_read_so(alloc, "proxies = 21", line.as_str())
+    is_read_so(alloc, "proxies = 32", line.as_str())
 }
 
 #[test]

@@ -61,7 +61,7 @@ const MISSING: [Row; 7] = [
         "u is missing: 0 to 3 members may fail, of 2u + 1",
     ),
     (
-        "proxies = 21\n",
+        "proxies = 32\n",
         "",
         "proxies is missing: each member has one client proxy or more",
     ),
@@ -91,7 +91,7 @@ const SITE: &str = "site: a site is named by 32 hex digits, in quotes";
 
 const U: &str = "u: 0 to 3 members may fail, of 2u + 1";
 
-const PROXIES: &str = "proxies: with u = 1 a member has 1 to 21";
+const PROXIES: &str = "proxies: with u = 1 a member has 1 to 21845";
 
 const KEY: &str = "key: the path of a key file is expected, in quotes";
 
@@ -118,8 +118,8 @@ const BAD: [Row; 17] = [
     ("u = 1", "u = -1", U),
     ("u = 1", "u = 4", U),
     ("u = 1", "u = 4294967297", U),
-    ("proxies = 21", "proxies = 0", PROXIES),
-    ("proxies = 21", "proxies = [21]", PROXIES),
+    ("proxies = 32", "proxies = 0", PROXIES),
+    ("proxies = 32", "proxies = [32]", PROXIES),
     ("\"/etc/eve/site.key\"", "\"\"", KEY),
     ("\"/etc/eve/site.key\"", "2026-11-30", KEY),
     ("parcel_mib = 4096", "parcel_mib = 0", PARCEL),
@@ -148,12 +148,12 @@ const BAD_MEMBER: [Row; 10] = [
 /// Members that are no site together.
 const MEMBERS: [Row; 5] = [
     (
-        "u = 1\nproxies = 21",
+        "u = 1\nproxies = 32",
         "u = 0\nproxies = 64",
         "member: there are 3, and with u = 0 there have to be 1",
     ),
     (
-        "u = 1\nproxies = 21",
+        "u = 1\nproxies = 32",
         "u = 2\nproxies = 12",
         "member: there are 3, and with u = 2 there have to be 5",
     ),
@@ -167,7 +167,11 @@ const MEMBERS: [Row; 5] = [
         "10.0.0.2:021211",
         "peer of member 2: member 1 has the same address",
     ),
-    ("u = 1", "u = 2", "proxies: with u = 2 a member has 1 to 12"),
+    (
+        "u = 1\nproxies = 32",
+        "u = 2\nproxies = 13108",
+        "proxies: with u = 2 a member has 1 to 13107",
+    ),
 ];
 
 /// The keys of a file but for its one member.

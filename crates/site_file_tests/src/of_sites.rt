@@ -58,7 +58,7 @@ fn are_members(members: &[SiteMember]) -> bool {
 fn is_sample(file: &SiteFile) -> bool {
     file.site == NAME
         && file.u == 1
-        && file.proxies == 21
+        && file.proxies == 32
         && file.key.as_str() == "/etc/eve/site.key"
         && file.parcel_mib == 4096
         && are_members(file.members.as_slice())
@@ -79,7 +79,7 @@ const OTHER: &str = "member = [
 ]
 parcel_mib = 0x1000
 'key' = '/etc/eve/site.key'
-\"proxies\" = 21
+\"proxies\" = 32
 u = 1
 site = '6F1C8A0E5D3B4C2F9A7E1D2C3B4A5968'";
 

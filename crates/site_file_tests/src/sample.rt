@@ -6,7 +6,7 @@ use std::alloc::{AllocError, Global};
 pub const SAMPLE: &str = "# three machines
 site = \"6f1c8a0e5d3b4c2f9a7e1d2c3b4a5968\"
 u = 1
-proxies = 21
+proxies = 32
 key = \"/etc/eve/site.key\"
 parcel_mib = 4096
 

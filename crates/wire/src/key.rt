@@ -37,7 +37,8 @@ impl Record for Key {
         if !is_key_text(text) {
             return Err(Fault::BadRecord);
         }
-        Ok((Key::from_slice(alloc, text)?, rest))
+        let key = Key::from_slice(alloc, text)?;
+        Ok((key, rest))
     }
 
     ghost prefix_free = { key_prefix_free };

@@ -16,7 +16,7 @@ returns-then-has_room-clause-piece c =
     let room : has_room (length c.args.keys.now.items) (c.args.bytes + length c.args.word.now + 1) ≡ true =
     ap (λ (n : ℕ). has_room n (c.args.bytes + length c.args.word.now + 1)) (sym count) ∙ sym c.has_room.ensures ∙ c.if-has_room.true in
     let now : c.push.new.self.items ≡ c.args.keys.now.items ++ c.args.word.now ∷ [] =
-    c.in_ok-push.ensures.items ∙ ap (λ (k : List ℕ). c.args.keys.now.items ++ k ∷ []) (c.new.ensures ∙ c.in_ok-from_slice.ensures.items) in
+    c.in_ok-push.ensures.items ∙ ap (λ (k : List ℕ). c.args.keys.now.items ++ k ∷ []) c.in_ok-from_slice.ensures in
     subst (λ (ks : List (List ℕ)). IsPiece c.args.reading ks (c.args.bytes + length c.args.word.now + 1)) (sym now)
     (longer_piece c.args.reading c.args.keys.now.items c.args.bytes c.requires.piece c.args.word.now room)
 
@@ -26,7 +26,7 @@ returns-then-has_room-clause-turns c =
     let room : has_room (length c.args.keys.now.items) (c.args.bytes + length c.args.word.now + 1) ≡ true =
     ap (λ (n : ℕ). has_room n (c.args.bytes + length c.args.word.now + 1)) (sym count) ∙ sym c.has_room.ensures ∙ c.if-has_room.true in
     let now : c.push.new.self.items ≡ c.args.keys.now.items ++ c.args.word.now ∷ [] =
-    c.in_ok-push.ensures.items ∙ ap (λ (k : List ℕ). c.args.keys.now.items ++ k ∷ []) (c.new.ensures ∙ c.in_ok-from_slice.ensures.items) in
+    c.in_ok-push.ensures.items ∙ ap (λ (k : List ℕ). c.args.keys.now.items ++ k ∷ []) c.in_ok-from_slice.ensures in
     λ more. ap (λ (ts : List Turn). c.args.turns.now.items ++ ts)
     (ap (λ (ks : List (List ℕ)). piece_turns c.args.reading ks more) now
     ∙ sym (goes_on c.args.reading c.args.keys.now.items c.args.bytes c.requires.piece c.args.word.now more room))
@@ -37,7 +37,7 @@ returns-clause-turns c =
     let room : has_room (length c.args.keys.now.items) (c.args.bytes + length c.args.word.now + 1) ≡ false =
     ap (λ (n : ℕ). has_room n (c.args.bytes + length c.args.word.now + 1)) (sym count) ∙ sym c.has_room.ensures ∙ c.if-has_room.false in
     let command : c.read_command.result ≡ read_command c.args.reading c.args.keys.now.items =
-    c.read_command.ensures ∙ ap (λ (ks : List (List ℕ)). read_command c.args.reading ks) (c.new-2.ensures ∙ ap (λ (v : Vec (List ℕ) Global). v.items) c.replace-piece.ensures.value) in
+    c.read_command.ensures ∙ ap (λ (ks : List (List ℕ)). read_command c.args.reading ks) (c.new.ensures ∙ ap (λ (v : Vec (List ℕ) Global). v.items) c.replace-piece.ensures.value) in
     let first : c.replace-piece.new.dest.items ≡ c.args.word.now ∷ [] = ap (λ (v : Vec (List ℕ) Global). v.items) c.replace-piece.ensures.after ∙ c.in_ok-first.ensures.0 in
     λ more.
     ap (λ (ts : List Turn). ts ++ piece_turns c.args.reading c.replace-piece.new.dest.items more) c.in_ok-push-2.ensures.items

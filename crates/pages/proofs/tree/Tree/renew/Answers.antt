@@ -20,5 +20,5 @@ loop-group-preserved c = (λ l. c.in_ok-renew_group.ensures.count, λ g i l m. b
 
 pub returns : goal.returns
 returns c =
-    same-each c.loop-group.self c.args.digests.now (c.loop-group.invariant.0 (omega (arith, c.loop-group-test.false))) c.told-digests
+    c.renew_top.ensures ∙ same-each c.loop-group.self c.args.digests.now (c.loop-group.invariant.0 (omega (arith, c.loop-group-test.false))) c.told-digests
     (λ g i l m. c.loop-group.invariant.1 g i (omega (arith, l, c.loop-group-test.false)) m)

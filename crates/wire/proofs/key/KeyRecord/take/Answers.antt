@@ -28,7 +28,7 @@ pub returns : goal.returns
 returns c =
     let text = c.in_ok-text.ensures.ok in
     let valid : is_key c.in_ok-text.text.now ≡ true = search rules in
-    let key : c.new.result ≡ c.in_ok-text.text.now = search rules in
+    let key : c.in_ok-key.key ≡ c.in_ok-text.text.now = search rules in
     let parts : c.args.bytes.now ≡ num w8 (length c.in_ok-text.text.now) ++ (c.in_ok-text.text.now ++ c.in_ok-text.rest.now) =
     c.in_ok-size.ensures.1 ∙ (ap (λ (t : List ℕ). num w8 c.in_ok-size.size ++ t) text.1 ∙ ap (λ (n : ℕ). num w8 n ++ (c.in_ok-text.text.now ++ c.in_ok-text.rest.now)) (sym text.0)) in
     (tt, rw (key, key_text-is c.in_ok-text.text.now valid) (parts ∙ sym (append_assoc (num w8 (length c.in_ok-text.text.now)) c.in_ok-text.text.now c.in_ok-text.rest.now)))
