@@ -72,18 +72,20 @@ fn has_no_other<R: ToText>(keepers: &[MemKeeper<R>], id: u8) -> bool
 }
 
 /// The keeper of this number, if there are so many, and nothing was kept of any other one.
+#[tactic(auto, using(crate::proofs::Forms::is_alone, crate::proofs::Forms::alone_has_no_other, crate::proofs::Forms::alone_are_so_many))]
 fn lone<R: ToText>(keepers: &[MemKeeper<R>], count: u8, id: u8) -> Option<&MemKeeper<R>>
     ensures alone { IfSome result (λ own. kept_alone count id own.now ≡ keepers.now) }
     ensures place { IfSome result (λ _. id < count) }
     ensures none { result ≡ None → id < count → (kept : Kept) → kept_alone count id kept ≡ keepers.now → ⊥ }
 {
-    if keepers.len() != usize::from(count) {
+    let place = usize::from(id);
+    if keepers.len() != usize::from(count) || keepers.len() <= place {
         return None;
     }
     if !has_no_other(keepers, id) {
         return None;
     }
-    keepers.get(usize::from(id))
+    Some(&keepers[place])
 }
 
 /// The record of these parts. The keepers' records are shared.
