@@ -1,6 +1,9 @@
 //! What a crash may leave: of what was written since the last sync of a file, any blocks may be on the disk.
 
 ghost use Rattle.std.specs.Prelude.{◌≡◌, max, IfOk};
+ghost use Rattle.sqlite_disk.specs.Fuse.{inner_of};
+ghost use Rattle.sqlite_disk.specs.Memory.{memory_bytes};
+ghost use Rattle.disk_images.specs.Image.{IsImageOf};
 
 use crate::database::MemoryDisk;
 use crate::image::{Image, Images, images_of};
@@ -57,8 +60,13 @@ fn crash(files: &mut Files<MemoryDisk>) {
     files.db.crash();
 }
 
-/// What is left of these files, which are as they were synced then.
-pub fn left_of(alloc: Global, files: &mut Files<MemoryDisk>) -> Result<Leftovers, AllocError> {
+/// What is left of these files, which are as they were synced then. The only error is a failed allocation.
+pub fn left_of(alloc: Global, files: &mut Files<MemoryDisk>) -> Result<Leftovers, AllocError>
+    ensures written_log { IfOk result (λ left. IsImageOf (memory_bytes (inner_of files.old.log)) left.written.log) }
+    ensures written_db { IfOk result (λ left. IsImageOf (memory_bytes (inner_of files.old.db)) left.written.db) }
+    ensures synced_log { IfOk result (λ left. IsImageOf (memory_bytes (inner_of files.new.log)) left.synced.log) }
+    ensures synced_db { IfOk result (λ left. IsImageOf (memory_bytes (inner_of files.new.db)) left.synced.db) }
+{
     let written = images_of(alloc, files)?;
     crash(files);
     let synced = images_of(alloc, files)?;

@@ -70,10 +70,15 @@ fn a_crash_at_each_call_leaves_the_last_save_or_the_next(rt: HostRuntime) -> Res
 }
 
 /// What a machine that stopped left, after so many saves.
-#[derive(Drop)]
 struct Left {
     saved: u8,
     files: Leftovers,
+}
+
+impl Drop for Left {
+    fn drop(self) {
+        let Left { saved: _, files: _ } = self;
+    }
 }
 
 fn left_at(alloc: Global, calls: Calls) -> Result<Option<Left>, Fail> {
