@@ -16,7 +16,7 @@ const SAVES: usize = 5;
 const MOST_ROWS: u64 = 10_000;
 
 /// From row to row a file stops so many calls later.
-const STEP: u64 = 11;
+const STEP: u64 = 3;
 
 /// What a machine that stopped after so many saves left of both files.
 struct Left {
