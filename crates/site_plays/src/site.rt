@@ -1,0 +1,467 @@
+//! The members of a site, the lanes between them, and what is known of them.
+
+use crate::asking::{Ask, asked};
+use crate::event::{Event, any_event};
+use crate::given::{Given, Planted};
+use crate::judge::{COUNTERS, Judge};
+use crate::net::Net;
+use crate::seen::Seen;
+use crate::watch::Watch;
+use crate::wrong::Wrong;
+use decrees::{Letter, Node};
+use ensemble::{Answer, Config, Replica};
+use exec_lines::Body;
+use letters::{is_bulk, read, to_text};
+use member::Member;
+use proto::Fault;
+use random::Words;
+use std::alloc::{AllocError, Global};
+use std::sync::Wait;
+use std::thread::Threads;
+
+/// How many proxies each member has.
+const PROXIES: u16 = 4;
+
+/// The moment of the first batches, in seconds.
+const MOMENT: u32 = 1000;
+
+/// Ticks of a second.
+const TICKS: u32 = 10;
+
+/// A site in one thread. It cannot be dropped, since members cannot: `end` ends it.
+pub struct Site {
+    pub u: u8,
+    pub members: Vec<Member>,
+    pub net: Net,
+    watches: Vec<Watch>,
+    pub seen: Seen,
+    pub judge: Judge,
+    pub words: Words,
+    pub planted: Option<Planted>,
+    /// Of so many letters that come one is lost, one comes late, and one comes twice.
+    trouble: u32,
+    /// In the end: which member works seldom.
+    pub slow: Option<usize>,
+    /// With a planted fault: orders that come after the decrees on them.
+    pub orders: Vec<Letter<Body>>,
+    ticks: u32,
+    pub suspicions: u64,
+    pub restarts: u64,
+    /// How many letters had no text, or were not read, for want of memory.
+    pub lost: u64,
+}
+
+/// The index of the member that has the node.
+fn home(node: Node) -> usize {
+    match node {
+        Node::Client(proxy) => usize::from(proxy.saturating_sub(1) / PROXIES),
+        Node::Executor(id) => usize::from(id),
+        Node::Verifier(id) => usize::from(id),
+    }
+}
+
+/// Ends these members.
+fn end_all(mut members: Vec<Member>) {
+    while let Some(member) = members.pop() {
+        member.end();
+    }
+    members.destroy_empty();
+}
+
+/// What so many members observe at first.
+fn watches(alloc: Global, members: usize) -> Result<Vec<Watch>, AllocError> {
+    let mut watches = Vec::new(alloc);
+    for id in 0..members {
+        watches.push(Watch::new(alloc, id, members)?)?;
+    }
+    Ok(watches)
+}
+
+/// Of how many letters one is lost: of almost all, of many, or of few.
+fn any_trouble(words: &mut Words) -> u32 {
+    match words.below(3) {
+        0 => 1_000_000,
+        1 => 150,
+        _ => 30,
+    }
+}
+
+impl Site {
+    /// A site of which no member is opened.
+    pub fn new(alloc: Global, given: Given, seed: u32) -> Result<Site, AllocError> {
+        let count = 2 * usize::from(given.u) + 1;
+        let net = Net::new(alloc, count)?;
+        let watches = watches(alloc, count)?;
+        let seen = Seen::new(alloc, count)?;
+        let judge = Judge::new(alloc, count.saturating_mul(usize::from(PROXIES)))?;
+        let mut words = Words::new(seed);
+        let trouble = any_trouble(&mut words);
+        Ok(Site {
+            u: given.u,
+            members: Vec::new(alloc),
+            net,
+            watches,
+            seen,
+            judge,
+            words,
+            planted: given.planted,
+            trouble,
+            slow: None,
+            orders: Vec::new(alloc),
+            ticks: 0,
+            suspicions: 0,
+            restarts: 0,
+            lost: 0,
+        })
+    }
+
+    /// How many proxies all members have.
+    pub fn proxies(&self) -> u16 {
+        PROXIES * (2 * u16::from(self.u) + 1)
+    }
+
+    /// Its members are opened.
+    pub fn open(&mut self, alloc: Global) -> Result<(), Fault> {
+        let config = Config::new(self.u, self.proxies())?;
+        for id in 0..2 * u16::from(self.u) + 1 {
+            let member = Member::open(alloc, &config, u8::try_from(id).unwrap_or(0))?;
+            if let Err(failed) = self.members.push(member) {
+                failed.value.end();
+            }
+        }
+        Ok(())
+    }
+
+    /// Ends it.
+    pub fn end(self) {
+        let Site {
+            u: _,
+            members,
+            net,
+            watches,
+            seen,
+            judge,
+            words,
+            planted: _,
+            trouble: _,
+            slow: _,
+            orders,
+            ticks: _,
+            suspicions: _,
+            restarts: _,
+            lost: _,
+        } = self;
+        end_all(members);
+        drop(net);
+        drop(watches);
+        drop(seen);
+        drop(judge);
+        drop(words);
+        drop(orders);
+    }
+
+    /// What happens next, by chance.
+    pub fn next_event(&mut self) -> Event {
+        let members = 2 * u32::from(self.u) + 1;
+        let lanes = self.net.lanes().min(1000) as u32;
+        let proxies = u32::from(self.proxies());
+        any_event(&mut self.words, members, proxies, lanes)
+    }
+
+    /// The member has heard of the letter, or told it.
+    fn look(&mut self, member: usize, letter: &Letter<Body>) {
+        if let (Body::Ballot(ballot), Some(watch)) = (&letter.body, self.watches.get_mut(member)) {
+            watch.look(ballot);
+        }
+    }
+
+    /// Whether a planted fault loses what the one member says to the other one.
+    fn is_lost(&self, from: usize, to: usize) -> bool {
+        self.planted == Some(Planted::Lost) && from == 0 && to == 1
+    }
+
+    /// The letter leaves the member, and is to be sent. It is lost if there is no memory for that.
+    fn send(&mut self, alloc: Global, from: usize, letter: &Letter<Body>) {
+        self.seen.note(letter);
+        self.look(from, letter);
+        let to = home(letter.to);
+        if self.is_lost(from, to) {
+            return;
+        }
+        match to_text(alloc, letter) {
+            Ok(text) => self.net.push(from, to, is_bulk(letter), text),
+            Err(_) => self.lost = self.lost.saturating_add(1),
+        }
+    }
+
+    /// What a member answers when it works.
+    fn answers<R: Threads + Wait + Sync>(
+        &mut self,
+        rt: &R,
+        alloc: Global,
+        id: usize,
+    ) -> Vec<Answer> {
+        let moment = MOMENT.saturating_add(self.ticks / TICKS);
+        match self.members.get_mut(id) {
+            Some(member) => member.work(rt, alloc, moment),
+            None => Vec::new(alloc),
+        }
+    }
+
+    /// What a member has to say. It stays there if there is no memory for it.
+    fn letters(&mut self, alloc: Global, id: usize) -> Vec<Letter<Body>> {
+        let Some(member) = self.members.get_mut(id) else {
+            return Vec::new(alloc);
+        };
+        match member.prepare(alloc) {
+            Ok(letters) => letters,
+            Err(_) => Vec::new(alloc),
+        }
+    }
+
+    /// A proxy is answered, with a planted fault at times twice.
+    fn answer(&mut self, answer: &Answer) {
+        self.judge.answer(answer);
+        if self.planted == Some(Planted::Twice) && self.words.one_in(20) {
+            self.judge.answer(answer);
+        }
+    }
+
+    /// The proxies are answered.
+    fn answer_all(&mut self, answers: &[Answer]) {
+        for answer in answers {
+            self.answer(answer);
+        }
+    }
+
+    /// The member works, its proxies are answered, and what it has to say is to be sent.
+    pub fn work<R: Threads + Wait + Sync>(&mut self, rt: &R, alloc: Global, id: usize) {
+        let answers = self.answers(rt, alloc, id);
+        self.answer_all(answers.as_slice());
+        let letters = self.letters(alloc, id);
+        for letter in &letters {
+            self.send(alloc, id, letter);
+        }
+        if !self.seen.is_one {
+            self.judge.refuse(Wrong::Decrees);
+        }
+    }
+
+    /// Whether a planted fault has the letter come after the decrees on it.
+    fn is_early(&self, letter: &Letter<Body>) -> bool {
+        self.planted == Some(Planted::Early)
+            && self.slow == Some(home(letter.to))
+            && matches!(letter.body, Body::Order(_))
+    }
+
+    /// The letter comes to its member.
+    pub fn hand_in(&mut self, letter: Letter<Body>) {
+        let to = home(letter.to);
+        self.look(to, &letter);
+        if let Some(member) = self.members.get_mut(to) {
+            member.come(letter);
+        }
+    }
+
+    /// The letter comes to its member, unless a planted fault delays it.
+    fn come_in(&mut self, letter: Letter<Body>) {
+        if self.is_early(&letter) {
+            let _ = self.orders.push(letter);
+        } else {
+            self.hand_in(letter);
+        }
+    }
+
+    /// The letter of this text comes. It is lost if there is no memory for it.
+    fn come(&mut self, alloc: Global, text: &[u8]) {
+        match read(alloc, text) {
+            Ok(letter) => self.come_in(letter),
+            Err(Fault::NoMemory) => self.lost = self.lost.saturating_add(1),
+            Err(_) => self.judge.refuse(Wrong::Letter),
+        }
+    }
+
+    /// The letter of this text comes, or it is lost, or comes late or twice, by chance.
+    fn take(&mut self, alloc: Global, text: Vec<u8>) {
+        if self.net.is_fair {
+            self.come(alloc, &text);
+            return;
+        }
+        match self.words.below(self.trouble) {
+            0 => {}
+            1 => self.net.hold_back(text),
+            2 => {
+                self.come(alloc, &text);
+                self.net.hold_back(text);
+            }
+            _ => self.come(alloc, &text),
+        }
+    }
+
+    /// Bytes come to the member, at most so many on each lane.
+    pub fn hear(&mut self, alloc: Global, id: usize, bytes: usize) {
+        let mut texts = Vec::new(alloc);
+        self.net.hear(alloc, &mut self.words, id, bytes, &mut texts);
+        for text in texts {
+            self.take(alloc, text);
+        }
+        if !self.net.is_right() {
+            self.judge.refuse(Wrong::Lane);
+        }
+    }
+
+    /// A letter that was held back comes: whether there was one.
+    pub fn take_late(&mut self, alloc: Global) -> bool {
+        match self.net.take_late(&mut self.words) {
+            Some(text) => {
+                self.come(alloc, &text);
+                true
+            }
+            None => false,
+        }
+    }
+
+    /// The proxy, which has a member, asks this of the row. Unfit: it is not free.
+    fn ask_row(&mut self, alloc: Global, proxy: u16, row: usize, ask: Ask) -> Result<(), Fault> {
+        if !self.judge.has_room(row) {
+            return Err(Fault::NoMemory);
+        }
+        let ready = asked(alloc, &mut self.words, row, ask)?;
+        let Some(member) = self.members.get_mut(home(Node::Client(proxy))) else {
+            return Err(Fault::Unfit);
+        };
+        if !member.is_free(proxy) {
+            return Err(Fault::Unfit);
+        }
+        let number = member.ask(alloc, proxy, ready.command, ready.quiet)?;
+        self.judge.hear(usize::from(proxy), number, row, ask);
+        Ok(())
+    }
+
+    /// The proxy asks something, if it is free and there is memory for it.
+    pub fn ask(&mut self, alloc: Global, proxy: u16) {
+        if self.judge.is_free(usize::from(proxy)) {
+            let (row, ask) = self.judge.any_ask(&mut self.words, usize::from(proxy));
+            let _ = self.ask_row(alloc, proxy, row, ask);
+        }
+    }
+
+    /// A proxy of the first member sets the counter of this row to 0: whether there is memory for that.
+    fn set_counter(&mut self, alloc: Global, row: u16) -> bool {
+        let proxy = row.saturating_add(1);
+        let ask = Ask::Set(0);
+        let row = usize::from(row);
+        self.ask_row(alloc, proxy, row, ask).is_ok()
+            || self.ask_row(alloc, proxy, row, ask).is_ok()
+            || self.ask_row(alloc, proxy, row, ask).is_ok()
+    }
+
+    /// All counters are to be set to 0: whether there is memory for that.
+    pub fn set_counters(&mut self, alloc: Global) -> bool {
+        for row in 0..COUNTERS as u16 {
+            if !self.set_counter(alloc, row) {
+                return false;
+            }
+        }
+        true
+    }
+
+    /// The replica of the member is opened again at times, if it is down.
+    fn open_again(&mut self, alloc: Global, id: usize, replica: Replica) {
+        let Some(member) = self.members.get_mut(id) else {
+            return;
+        };
+        if !member.is_up(replica) && self.words.one_in(2) {
+            member.restart(alloc, replica);
+            self.restarts = self.restarts.saturating_add(1);
+        }
+    }
+
+    /// Who is connected to the member.
+    fn connect(&mut self, id: usize) {
+        for other in 0..self.members.len() {
+            let is_connected = self.net.are_joined(id, other);
+            if let Some(watch) = self.watches.get_mut(id) {
+                watch.connect(other, is_connected);
+            }
+        }
+    }
+
+    /// Whether a proxy of the member has waited for a while.
+    fn has_waited(&self, id: usize) -> bool {
+        for proxy in 1..self.proxies().saturating_add(1) {
+            if home(Node::Client(proxy)) == id && self.judge.has_waited(usize::from(proxy)) {
+                return true;
+            }
+        }
+        false
+    }
+
+    /// The member suspects the leader, if it is time to.
+    fn watch(&mut self, alloc: Global, id: usize) {
+        let is_waiting = self.has_waited(id);
+        if let (Some(member), Some(watch)) = (self.members.get_mut(id), self.watches.get_mut(id)) {
+            let number = member.number().unwrap_or(0);
+            if watch.tick(self.u, number, is_waiting) {
+                member.suspect(alloc);
+                self.suspicions = self.suspicions.saturating_add(1);
+            }
+        }
+    }
+
+    /// The proxy asks again what it has waited for, if it is time to.
+    fn ask_again(&mut self, alloc: Global, proxy: u16) {
+        if !self.judge.is_to_ask_again(usize::from(proxy)) {
+            return;
+        }
+        if let Some(member) = self.members.get_mut(home(Node::Client(proxy))) {
+            member.again(alloc, proxy);
+        }
+    }
+
+    /// A tenth of a second passes for the member.
+    fn tick_member(&mut self, alloc: Global, id: usize) {
+        let number = u8::try_from(id).unwrap_or(0);
+        self.open_again(alloc, id, Replica::Executor(number));
+        self.open_again(alloc, id, Replica::Verifier(number));
+        self.connect(id);
+        self.watch(alloc, id);
+    }
+
+    /// A tenth of a second passes for all members.
+    fn tick_members(&mut self, alloc: Global) {
+        for id in 0..self.members.len() {
+            self.tick_member(alloc, id);
+        }
+    }
+
+    /// A tenth of a second passes.
+    pub fn tick(&mut self, alloc: Global) {
+        self.ticks = self.ticks.saturating_add(1);
+        self.judge.tick();
+        self.tick_members(alloc);
+        for proxy in 1..self.proxies().saturating_add(1) {
+            self.ask_again(alloc, proxy);
+        }
+    }
+
+    /// The event happens.
+    pub fn happen<R: Threads + Wait + Sync>(&mut self, rt: &R, alloc: Global, event: Event) {
+        match event {
+            Event::Tick => self.tick(alloc),
+            Event::Ask { proxy } => self.ask(alloc, proxy),
+            Event::Work { member } => self.work(rt, alloc, member),
+            Event::Hear { member, bytes } => self.hear(alloc, member, bytes),
+            Event::Turn { member, bytes } => {
+                self.hear(alloc, member, bytes);
+                self.work(rt, alloc, member);
+            }
+            Event::Late => {
+                self.take_late(alloc);
+            }
+            Event::Cut => self.net.cut(&mut self.words),
+            Event::Heal => self.net.heal(),
+            Event::Lose { lane, loss } => self.net.lose(alloc, lane, loss),
+        }
+    }
+}
