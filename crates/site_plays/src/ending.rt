@@ -43,7 +43,7 @@ impl Site {
 
     /// So does each member.
     fn turn<R: Threads + Wait + Sync>(&mut self, rt: &R, alloc: Global, all_work: bool) {
-        for id in 0..self.members.len() {
+        for id in 0..self.processes.len() {
             self.turn_of(rt, alloc, id, all_work);
         }
     }
@@ -55,9 +55,17 @@ impl Site {
         }
     }
 
-    /// Whether a request is not answered, or something is on its way.
+    /// Whether the process of each member runs.
+    fn do_all_run(&self) -> bool {
+        self.processes.iter().all(|process| process.is_running())
+    }
+
+    /// Whether a request is not answered, something is on its way, or a process has ended.
     fn is_busy(&self) -> bool {
-        self.judge.is_waiting() || !self.net.is_idle() || !self.orders.is_empty()
+        self.judge.is_waiting()
+            || !self.net.is_idle()
+            || !self.orders.is_empty()
+            || !self.do_all_run()
     }
 
     /// Ticks pass until all is answered, and nothing is on its way. False: that takes too many.
@@ -105,7 +113,7 @@ impl Site {
 
     /// Whether the executor of this member has the state that the first one has.
     fn is_alike(&self, id: usize) -> bool {
-        match (self.members.first(), self.members.get(id)) {
+        match (self.member(0), self.member(id)) {
             (Some(first), Some(member)) => match (first.number(), member.number()) {
                 (Some(number), Some(of)) => {
                     of == number && (id == 0 || self.seen.are_alike(0, id, number))
@@ -118,7 +126,7 @@ impl Site {
 
     /// Whether all executors have told of one state, and committed it.
     fn are_alike(&self) -> bool {
-        for id in 0..self.members.len() {
+        for id in 0..self.processes.len() {
             if !self.is_alike(id) {
                 return false;
             }
@@ -163,14 +171,23 @@ impl Site {
         }
     }
 
+    /// How often the member did not do something for want of memory.
+    fn refused_by(&self, id: usize) -> u64 {
+        match self.member(id) {
+            Some(member) => member.refused(),
+            None => 0,
+        }
+    }
+
     /// How often something was not done for want of memory.
     fn refused(&self) -> u64 {
         let mut refused = self
             .restarts
+            .saturating_add(self.ends)
             .saturating_add(self.lost)
             .saturating_add(self.net.lost());
-        for member in &self.members {
-            refused = refused.saturating_add(member.refused());
+        for id in 0..self.processes.len() {
+            refused = refused.saturating_add(self.refused_by(id));
         }
         refused
     }

@@ -16,6 +16,17 @@ pub enum Loss {
     Receiver,
 }
 
+/// Where the process of a member ends, once the member has worked.
+#[derive(Clone, Copy, Debug, PartialEq, Eq)]
+pub enum EndPoint {
+    /// Before what it did is saved: the next process goes on from what was saved before.
+    Unsaved,
+    /// When that is saved, and nothing of it has left.
+    Saved,
+    /// When some of what it has to say has left.
+    Leaving,
+}
+
 /// An event of a play. Members are named by their indexes, proxies by their numbers.
 #[derive(Clone, Copy, Debug)]
 pub enum Event {
@@ -37,6 +48,8 @@ pub enum Event {
     Cut,
     /// There are no sides any more.
     Heal,
+    /// The member works, and its process ends. Another one begins at a later tick.
+    End { member: usize, point: EndPoint },
 }
 
 /// The most bytes that come on a lane: at times all.
@@ -48,14 +61,26 @@ fn any_bytes(words: &mut Words) -> usize {
     }
 }
 
-/// An event by which letters are lost, or come late or twice.
-fn any_trouble(words: &mut Words, lanes: u32) -> Event {
+/// The end of the process of a member of so many.
+fn any_end(words: &mut Words, members: u32) -> Event {
+    let member = words.below(members) as usize;
+    let point = match words.below(3) {
+        0 => EndPoint::Unsaved,
+        1 => EndPoint::Saved,
+        _ => EndPoint::Leaving,
+    };
+    Event::End { member, point }
+}
+
+/// An event by which letters are lost, or come late or twice, or a process ends.
+fn any_trouble(words: &mut Words, members: u32, lanes: u32) -> Event {
     let lane = words.below(lanes) as usize;
-    let loss = match words.below(8) {
+    let loss = match words.below(10) {
         0 => return Event::Cut,
         1 | 2 => return Event::Heal,
         3 => Loss::Sender,
         4 => Loss::Receiver,
+        5 | 6 => return any_end(words, members),
         _ => Loss::Connection,
     };
     Event::Lose { lane, loss }
@@ -73,7 +98,7 @@ pub fn any_event(words: &mut Words, members: u32, proxies: u32, lanes: u32) -> E
     let bytes = any_bytes(words);
     match words.below(32) {
         0..=2 => Event::Tick,
-        3 | 4 => any_trouble(words, lanes),
+        3 | 4 => any_trouble(words, members, lanes),
         5 => Event::Late,
         6..=11 => Event::Ask {
             proxy: any_proxy(words, proxies),

@@ -13,6 +13,8 @@ pub enum Planted {
     Early,
     /// Answers are given twice.
     Twice,
+    /// What a member has to say leaves before it is saved.
+    Unsaved,
     /// What the first member says to the second one is lost, and not sent again.
     Lost,
 }
@@ -64,6 +66,7 @@ fn planted_of(wrong: &str) -> Option<Planted> {
     match wrong {
         "early" => Some(Planted::Early),
         "twice" => Some(Planted::Twice),
+        "unsaved" => Some(Planted::Unsaved),
         "lost" => Some(Planted::Lost),
         _ => None,
     }

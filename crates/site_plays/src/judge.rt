@@ -53,6 +53,8 @@ pub struct Judge {
     pending: Vec<Option<Pending>>,
     pub asked: u64,
     pub answered: u64,
+    /// How often a process ended while its proxy waited, so that nobody waits any more.
+    pub left: u64,
     /// What is wrong, if something is: the first of it.
     pub wrong: Option<Wrong>,
 }
@@ -106,6 +108,18 @@ impl Row {
         }
     }
 
+    /// This was the last that was asked of it, and it was never sent.
+    fn take_back(&mut self, ask: Ask) {
+        match ask {
+            Ask::Add => {
+                self.asked = self.asked.saturating_sub(1);
+                let _ = self.given.pop();
+            }
+            Ask::Set(number) => self.asked = number.saturating_sub(1),
+            Ask::Read => {}
+        }
+    }
+
     /// The number that was added, read or set is known: whether it may be given to who asked this when `floor` was the most.
     fn give(&mut self, ask: Ask, floor: u64, number: u64) -> bool {
         let is_later = match ask {
@@ -126,6 +140,7 @@ impl Judge {
             pending: vec![in alloc; None; proxies]?,
             asked: 0,
             answered: 0,
+            left: 0,
             wrong: None,
         };
         for _ in 0..proxies.saturating_add(COUNTERS) {
@@ -235,6 +250,26 @@ impl Judge {
         }
     }
 
+    /// The process of the proxy's member has ended. The next one finds that the proxy's last request has this number, and
+    /// whether that is outstanding. What the proxy asked after that was never sent. If what it waits for was answered to the
+    /// process that ended, the answer is lost.
+    pub fn lose(&mut self, proxy: usize, last: u64, is_outstanding: bool) {
+        let Some(pending) = self.pending_of(proxy) else {
+            return;
+        };
+        if last == pending.number && is_outstanding {
+            return;
+        }
+        let _ = self.taken(proxy, pending.number);
+        self.left = self.left.saturating_add(1);
+        if pending.number <= last {
+            return;
+        }
+        if let Some(row) = self.rows.get_mut(pending.row) {
+            row.take_back(pending.ask);
+        }
+    }
+
     /// A tick passes.
     pub fn tick(&mut self) {
         for place in self.pending.iter_mut() {
@@ -249,9 +284,14 @@ impl Judge {
         self.ticks_of(proxy).is_none()
     }
 
+    /// What the proxy waits for.
+    fn pending_of(&self, proxy: usize) -> Option<Pending> {
+        *self.pending.get(proxy.saturating_sub(1))?
+    }
+
     /// For how many ticks the proxy has waited, if it waits.
     fn ticks_of(&self, proxy: usize) -> Option<u32> {
-        let pending = (*self.pending.get(proxy.saturating_sub(1))?)?;
+        let pending = self.pending_of(proxy)?;
         Some(pending.ticks)
     }
 

@@ -29,8 +29,11 @@ mod judge;
 mod lane;
 mod net;
 mod playing;
+mod process;
 mod seen;
 mod site;
+mod ticking;
+mod turn;
 mod watch;
 mod wrong;
 
@@ -66,8 +69,14 @@ fn tell(rt: &HostRuntime, given: Given, counts: &Counts) -> io::Result<()> {
         counts.answers
     )?;
     println!(rt;
-        "{} letters, {} suspicions, {} changes of view, {} needs, {} restarts",
-        counts.letters, counts.suspicions, counts.changes, counts.needs, counts.restarts
+        "{} letters, {} suspicions, {} changes of view, {} needs, {} restarts, {} ends, {} left",
+        counts.letters,
+        counts.suspicions,
+        counts.changes,
+        counts.needs,
+        counts.restarts,
+        counts.ends,
+        counts.left
     )
 }
 

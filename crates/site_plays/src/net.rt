@@ -68,6 +68,17 @@ impl Net {
         }
     }
 
+    /// The process of the member has ended, and what it knew of its lanes is gone.
+    pub fn end(&mut self, alloc: Global, member: usize) {
+        for lane in self.lanes.iter_mut() {
+            if lane.from == member {
+                lane.lose(alloc, Loss::Sender);
+            } else if lane.to == member {
+                lane.lose(alloc, Loss::Receiver);
+            }
+        }
+    }
+
     /// The text of a letter is to be sent.
     pub fn push(&mut self, from: usize, to: usize, is_bulk: bool, text: Text) {
         let place = self.lanes.iter().position(|lane| lane.from == from

@@ -31,6 +31,10 @@ pub struct Counts {
     pub needs: u64,
     /// How often a replica was opened again.
     pub restarts: u64,
+    /// How often a process ended.
+    pub ends: u64,
+    /// Requests for which nobody waits, since a process ended.
+    pub left: u64,
 }
 
 impl Counts {
@@ -44,6 +48,8 @@ impl Counts {
         self.changes = self.changes.saturating_add(site.seen.changes);
         self.needs = self.needs.saturating_add(site.seen.needs);
         self.restarts = self.restarts.saturating_add(site.restarts);
+        self.ends = self.ends.saturating_add(site.ends);
+        self.left = self.left.saturating_add(site.judge.left);
     }
 }
 

@@ -5,35 +5,29 @@ use crate::event::{Event, any_event};
 use crate::given::{Given, Planted};
 use crate::judge::{COUNTERS, Judge};
 use crate::net::Net;
+use crate::process::Process;
 use crate::seen::Seen;
 use crate::watch::Watch;
 use crate::wrong::Wrong;
 use decrees::{Letter, Node};
-use ensemble::{Answer, Config, Replica};
+use ensemble::Config;
 use exec_lines::Body;
 use letters::{is_bulk, read, to_text};
 use member::Member;
 use proto::Fault;
 use random::Words;
 use std::alloc::{AllocError, Global};
-use std::sync::Wait;
-use std::thread::Threads;
 
 /// How many proxies each member has.
 const PROXIES: u16 = 4;
 
-/// The moment of the first batches, in seconds.
-const MOMENT: u32 = 1000;
-
-/// Ticks of a second.
-const TICKS: u32 = 10;
-
 /// A site in one thread. It cannot be dropped, since members cannot: `end` ends it.
 pub struct Site {
     pub u: u8,
-    pub members: Vec<Member>,
+    /// Of each member.
+    pub processes: Vec<Process>,
     pub net: Net,
-    watches: Vec<Watch>,
+    pub watches: Vec<Watch>,
     pub seen: Seen,
     pub judge: Judge,
     pub words: Words,
@@ -44,15 +38,17 @@ pub struct Site {
     pub slow: Option<usize>,
     /// With a planted fault: orders that come after the decrees on them.
     pub orders: Vec<Letter<Body>>,
-    ticks: u32,
+    pub ticks: u32,
     pub suspicions: u64,
     pub restarts: u64,
+    /// How often a process ended.
+    pub ends: u64,
     /// How many letters had no text, or were not read, for want of memory.
     pub lost: u64,
 }
 
 /// The index of the member that has the node.
-fn home(node: Node) -> usize {
+pub fn home(node: Node) -> usize {
     match node {
         Node::Client(proxy) => usize::from(proxy.saturating_sub(1) / PROXIES),
         Node::Executor(id) => usize::from(id),
@@ -60,12 +56,12 @@ fn home(node: Node) -> usize {
     }
 }
 
-/// Ends these members.
-fn end_all(mut members: Vec<Member>) {
-    while let Some(member) = members.pop() {
-        member.end();
+/// Ends these processes.
+fn end_all(mut processes: Vec<Process>) {
+    while let Some(process) = processes.pop() {
+        process.end();
     }
-    members.destroy_empty();
+    processes.destroy_empty();
 }
 
 /// What so many members observe at first.
@@ -98,7 +94,7 @@ impl Site {
         let trouble = any_trouble(&mut words);
         Ok(Site {
             u: given.u,
-            members: Vec::new(alloc),
+            processes: Vec::new(alloc),
             net,
             watches,
             seen,
@@ -111,6 +107,7 @@ impl Site {
             ticks: 0,
             suspicions: 0,
             restarts: 0,
+            ends: 0,
             lost: 0,
         })
     }
@@ -120,13 +117,14 @@ impl Site {
         PROXIES * (2 * u16::from(self.u) + 1)
     }
 
-    /// Its members are opened.
+    /// Its members are opened. After an error some are.
     pub fn open(&mut self, alloc: Global) -> Result<(), Fault> {
         let config = Config::new(self.u, self.proxies())?;
         for id in 0..2 * u16::from(self.u) + 1 {
-            let member = Member::open(alloc, &config, u8::try_from(id).unwrap_or(0))?;
-            if let Err(failed) = self.members.push(member) {
+            let process = Process::open(alloc, &config, u8::try_from(id).unwrap_or(0))?;
+            if let Err(failed) = self.processes.push(process) {
                 failed.value.end();
+                return Err(Fault::NoMemory);
             }
         }
         Ok(())
@@ -136,7 +134,7 @@ impl Site {
     pub fn end(self) {
         let Site {
             u: _,
-            members,
+            processes,
             net,
             watches,
             seen,
@@ -149,15 +147,31 @@ impl Site {
             ticks: _,
             suspicions: _,
             restarts: _,
+            ends: _,
             lost: _,
         } = self;
-        end_all(members);
+        end_all(processes);
         drop(net);
         drop(watches);
         drop(seen);
         drop(judge);
         drop(words);
         drop(orders);
+    }
+
+    /// The member, if its process runs.
+    pub fn member(&self, id: usize) -> Option<&Member> {
+        self.processes.get(id)?.member()
+    }
+
+    /// The member, if its process runs.
+    pub fn member_mut(&mut self, id: usize) -> Option<&mut Member> {
+        self.processes.get_mut(id)?.member_mut()
+    }
+
+    /// Whether the process of the member runs.
+    pub fn is_running(&self, id: usize) -> bool {
+        self.member(id).is_some()
     }
 
     /// What happens next, by chance.
@@ -181,7 +195,7 @@ impl Site {
     }
 
     /// The letter leaves the member, and is to be sent. It is lost if there is no memory for that.
-    fn send(&mut self, alloc: Global, from: usize, letter: &Letter<Body>) {
+    pub fn send(&mut self, alloc: Global, from: usize, letter: &Letter<Body>) {
         self.seen.note(letter);
         self.look(from, letter);
         let to = home(letter.to);
@@ -191,59 +205,6 @@ impl Site {
         match to_text(alloc, letter) {
             Ok(text) => self.net.push(from, to, is_bulk(letter), text),
             Err(_) => self.lost = self.lost.saturating_add(1),
-        }
-    }
-
-    /// What a member answers when it works.
-    fn answers<R: Threads + Wait + Sync>(
-        &mut self,
-        rt: &R,
-        alloc: Global,
-        id: usize,
-    ) -> Vec<Answer> {
-        let moment = MOMENT.saturating_add(self.ticks / TICKS);
-        match self.members.get_mut(id) {
-            Some(member) => member.work(rt, alloc, moment),
-            None => Vec::new(alloc),
-        }
-    }
-
-    /// What a member has to say. It stays there if there is no memory for it.
-    fn letters(&mut self, alloc: Global, id: usize) -> Vec<Letter<Body>> {
-        let Some(member) = self.members.get_mut(id) else {
-            return Vec::new(alloc);
-        };
-        match member.prepare(alloc) {
-            Ok(letters) => letters,
-            Err(_) => Vec::new(alloc),
-        }
-    }
-
-    /// A proxy is answered, with a planted fault at times twice.
-    fn answer(&mut self, answer: &Answer) {
-        self.judge.answer(answer);
-        if self.planted == Some(Planted::Twice) && self.words.one_in(20) {
-            self.judge.answer(answer);
-        }
-    }
-
-    /// The proxies are answered.
-    fn answer_all(&mut self, answers: &[Answer]) {
-        for answer in answers {
-            self.answer(answer);
-        }
-    }
-
-    /// The member works, its proxies are answered, and what it has to say is to be sent.
-    pub fn work<R: Threads + Wait + Sync>(&mut self, rt: &R, alloc: Global, id: usize) {
-        let answers = self.answers(rt, alloc, id);
-        self.answer_all(answers.as_slice());
-        let letters = self.letters(alloc, id);
-        for letter in &letters {
-            self.send(alloc, id, letter);
-        }
-        if !self.seen.is_one {
-            self.judge.refuse(Wrong::Decrees);
         }
     }
 
@@ -258,7 +219,7 @@ impl Site {
     pub fn hand_in(&mut self, letter: Letter<Body>) {
         let to = home(letter.to);
         self.look(to, &letter);
-        if let Some(member) = self.members.get_mut(to) {
+        if let Some(member) = self.member_mut(to) {
             member.come(letter);
         }
     }
@@ -298,8 +259,11 @@ impl Site {
         }
     }
 
-    /// Bytes come to the member, at most so many on each lane.
+    /// Bytes come to the member, at most so many on each lane, if its process runs.
     pub fn hear(&mut self, alloc: Global, id: usize, bytes: usize) {
+        if !self.is_running(id) {
+            return;
+        }
         let mut texts = Vec::new(alloc);
         self.net.hear(alloc, &mut self.words, id, bytes, &mut texts);
         for text in texts {
@@ -327,7 +291,7 @@ impl Site {
             return Err(Fault::NoMemory);
         }
         let ready = asked(alloc, &mut self.words, row, ask)?;
-        let Some(member) = self.members.get_mut(home(Node::Client(proxy))) else {
+        let Some(member) = self.member_mut(home(Node::Client(proxy))) else {
             return Err(Fault::Unfit);
         };
         if !member.is_free(proxy) {
@@ -364,104 +328,5 @@ impl Site {
             }
         }
         true
-    }
-
-    /// The replica of the member is opened again at times, if it is down.
-    fn open_again(&mut self, alloc: Global, id: usize, replica: Replica) {
-        let Some(member) = self.members.get_mut(id) else {
-            return;
-        };
-        if !member.is_up(replica) && self.words.one_in(2) {
-            member.restart(alloc, replica);
-            self.restarts = self.restarts.saturating_add(1);
-        }
-    }
-
-    /// Who is connected to the member.
-    fn connect(&mut self, id: usize) {
-        for other in 0..self.members.len() {
-            let is_connected = self.net.are_joined(id, other);
-            if let Some(watch) = self.watches.get_mut(id) {
-                watch.connect(other, is_connected);
-            }
-        }
-    }
-
-    /// Whether a proxy of the member has waited for a while.
-    fn has_waited(&self, id: usize) -> bool {
-        for proxy in 1..self.proxies().saturating_add(1) {
-            if home(Node::Client(proxy)) == id && self.judge.has_waited(usize::from(proxy)) {
-                return true;
-            }
-        }
-        false
-    }
-
-    /// The member suspects the leader, if it is time to.
-    fn watch(&mut self, alloc: Global, id: usize) {
-        let is_waiting = self.has_waited(id);
-        if let (Some(member), Some(watch)) = (self.members.get_mut(id), self.watches.get_mut(id)) {
-            let number = member.number().unwrap_or(0);
-            if watch.tick(self.u, number, is_waiting) {
-                member.suspect(alloc);
-                self.suspicions = self.suspicions.saturating_add(1);
-            }
-        }
-    }
-
-    /// The proxy asks again what it has waited for, if it is time to.
-    fn ask_again(&mut self, alloc: Global, proxy: u16) {
-        if !self.judge.is_to_ask_again(usize::from(proxy)) {
-            return;
-        }
-        if let Some(member) = self.members.get_mut(home(Node::Client(proxy))) {
-            member.again(alloc, proxy);
-        }
-    }
-
-    /// A tenth of a second passes for the member.
-    fn tick_member(&mut self, alloc: Global, id: usize) {
-        let number = u8::try_from(id).unwrap_or(0);
-        self.open_again(alloc, id, Replica::Executor(number));
-        self.open_again(alloc, id, Replica::Verifier(number));
-        self.connect(id);
-        self.watch(alloc, id);
-    }
-
-    /// A tenth of a second passes for all members.
-    fn tick_members(&mut self, alloc: Global) {
-        for id in 0..self.members.len() {
-            self.tick_member(alloc, id);
-        }
-    }
-
-    /// A tenth of a second passes.
-    pub fn tick(&mut self, alloc: Global) {
-        self.ticks = self.ticks.saturating_add(1);
-        self.judge.tick();
-        self.tick_members(alloc);
-        for proxy in 1..self.proxies().saturating_add(1) {
-            self.ask_again(alloc, proxy);
-        }
-    }
-
-    /// The event happens.
-    pub fn happen<R: Threads + Wait + Sync>(&mut self, rt: &R, alloc: Global, event: Event) {
-        match event {
-            Event::Tick => self.tick(alloc),
-            Event::Ask { proxy } => self.ask(alloc, proxy),
-            Event::Work { member } => self.work(rt, alloc, member),
-            Event::Hear { member, bytes } => self.hear(alloc, member, bytes),
-            Event::Turn { member, bytes } => {
-                self.hear(alloc, member, bytes);
-                self.work(rt, alloc, member);
-            }
-            Event::Late => {
-                self.take_late(alloc);
-            }
-            Event::Cut => self.net.cut(&mut self.words),
-            Event::Heal => self.net.heal(),
-            Event::Lose { lane, loss } => self.net.lose(alloc, lane, loss),
-        }
     }
 }
