@@ -27,6 +27,7 @@ mod member_record;
 mod opening;
 mod passing;
 mod recording;
+mod reporting;
 mod shown_entry;
 mod shown_log;
 mod tending;

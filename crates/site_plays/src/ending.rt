@@ -15,7 +15,7 @@ const MOST_TICKS: u32 = 1000;
 const TURNS: u32 = 8;
 
 /// How often all proxies ask until all executors have one state.
-const MOST_ROUNDS: u32 = 30;
+const MOST_ROUNDS: u32 = 60;
 
 /// How many turns there are with a slow member.
 const SLOW_TURNS: u32 = 60;
@@ -69,14 +69,15 @@ impl Site {
     }
 
     /// Ticks pass until all is answered, and nothing is on its way. False: that takes too many.
-    fn settle<R: Threads + Wait + Sync>(&mut self, rt: &R, alloc: Global) -> bool {
+    pub fn settle<R: Threads + Wait + Sync>(&mut self, rt: &R, alloc: Global) -> bool {
         for _ in 0..MOST_TICKS {
             self.turns(rt, alloc);
-            if !self.is_busy() {
-                return true;
-            }
+            let is_busy = self.is_busy();
             self.give_orders(alloc);
             self.tick(alloc);
+            if !is_busy {
+                return true;
+            }
         }
         self.judge.refuse(Wrong::Silent);
         false
@@ -105,7 +106,7 @@ impl Site {
     }
 
     /// Each proxy asks something, if it is free.
-    fn ask_all(&mut self, alloc: Global) {
+    pub fn ask_all(&mut self, alloc: Global) {
         for proxy in 1..self.proxies().saturating_add(1) {
             self.ask(alloc, proxy);
         }
@@ -149,7 +150,7 @@ impl Site {
     fn give_orders(&mut self, alloc: Global) {
         let orders = mem::replace(&mut self.orders, Vec::new(alloc));
         for order in orders {
-            self.hand_in(order);
+            self.arrive(order);
         }
     }
 

@@ -19,6 +19,15 @@ pub enum Planted {
     Lost,
 }
 
+/// A row of events in which nothing is lost, in place of events by chance.
+#[derive(Clone, Copy, PartialEq, Eq)]
+pub enum Schedule {
+    /// The last executor takes twice as long for a batch as the others.
+    Slow,
+    /// The last member is away for a while, and comes back while the others work on.
+    Away,
+}
+
 /// The plays that are asked for.
 #[derive(Clone, Copy)]
 pub struct Given {
@@ -26,10 +35,12 @@ pub struct Given {
     /// The first seed, and the last one.
     pub first: u32,
     pub last: u32,
+    /// How many events a play has, or how many batches a schedule.
     pub events: u32,
     /// Whether each event is printed.
     pub is_told: bool,
     pub planted: Option<Planted>,
+    pub schedule: Option<Schedule>,
     ghost few: { u < 4 },
 }
 
@@ -72,12 +83,25 @@ fn planted_of(wrong: &str) -> Option<Planted> {
     }
 }
 
+/// What `--schedule KIND` says.
+fn schedule_of(schedule: &str) -> Option<Schedule> {
+    match schedule {
+        "slow" => Some(Schedule::Slow),
+        "away" => Some(Schedule::Away),
+        _ => None,
+    }
+}
+
 fn given_of(matches: &ArgMatches<'_>) -> Option<Given> {
     let u = u8::try_from(number(matches.get_str("u")?)?).ok()?;
     let (first, last, is_told) = seeds_of(matches)?;
     let events = number(matches.get_str("events")?)?;
     let planted = match matches.get_str("wrong") {
         Some(wrong) => Some(planted_of(wrong)?),
+        None => None,
+    };
+    let schedule = match matches.get_str("schedule") {
+        Some(schedule) => Some(schedule_of(schedule)?),
         None => None,
     };
     if 3 < u || last < first {
@@ -90,18 +114,20 @@ fn given_of(matches: &ArgMatches<'_>) -> Option<Given> {
         events,
         is_told,
         planted,
+        schedule,
     })
 }
 
 /// What the words say: `--u U --seeds FIRST..LAST --events N`, or `--seed N` for one seed whose events are printed, and
-/// `--wrong KIND` for a planted fault. U is from 0 to 3.
+/// `--wrong KIND` for a planted fault, or `--schedule KIND` for a schedule of N batches. U is from 0 to 3.
 pub fn read_words(alloc: Global, words: &[String]) -> Result<Given, WordsFault> {
     let command = Command::new(alloc, "site_plays")
         .arg(option(alloc, "u"))?
         .arg(option(alloc, "seeds"))?
         .arg(option(alloc, "seed"))?
         .arg(option(alloc, "events"))?
-        .arg(option(alloc, "wrong"))?;
+        .arg(option(alloc, "wrong"))?
+        .arg(option(alloc, "schedule"))?;
     let matches = command.try_get_matches_from(words)?;
     given_of(&matches).ok_or(WordsFault::Usage)
 }

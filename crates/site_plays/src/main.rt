@@ -12,24 +12,34 @@
 //! event, and the status is 1. `--seed N` in place of `--seeds` makes one play again, and prints its events. The status is 2
 //! for other words, or if there is no memory for any of the plays.
 //!
-//! With `--wrong early`, `twice` or `lost` a fault is planted in each play, which it has to find: orders that come to a slow
-//! member after the decrees on them; answers that are given twice; a lane of which all is lost.
+//! Processes end when their members have worked: before what they did is saved, when it is, or when some of what they have
+//! to say has left. Another one begins at a later tick, with what was saved. What a member says leaves once that is saved.
 //!
-//! A replica stops only if memory is refused, and is opened again at a tick: a member has no call that stops one. A process
-//! does not end between `prepare` and the letters, and none goes on from old or new records: a member cannot be opened from
-//! a record. Which letters a member hands in next is its own (`following` is not used): a member does not say how far
-//! its executor is.
+//! Orders, decrees and parcels are held for the executor of a member, and `following` says which one is handed in next. A
+//! member does not have to know: to it a letter that is held is one that comes late.
+//!
+//! With `--schedule slow` or `away` N batches are decided in which nothing is lost. By the first the last executor takes
+//! twice as long for a batch as the others, and has to execute its batches itself. By the second the last member is away for
+//! so long, and has to follow again while the others work on.
+//!
+//! With `--wrong early`, `twice`, `unsaved` or `lost` a fault is planted in each play, which it has to find: orders that come
+//! to a slow member after the decrees on them, which it does not hold; answers that are given twice; what a member has to
+//! say leaves before its process ends without a save; a lane of which all is lost.
+//!
+//! A replica stops only if memory is refused, and is opened again at a tick: a member has no call that stops one.
 #![tactic(auto)]
 
 mod asking;
 mod ending;
 mod event;
 mod given;
+mod holder;
 mod judge;
 mod lane;
 mod net;
 mod playing;
 mod process;
+mod schedules;
 mod seen;
 mod site;
 mod ticking;
@@ -39,6 +49,7 @@ mod wrong;
 
 use crate::given::{Given, read_words};
 use crate::playing::{Counts, Played, play};
+use crate::schedules::Outcome;
 use std::io;
 use std::process::ExitCode;
 use std::sync::Wait;
@@ -80,6 +91,14 @@ fn tell(rt: &HostRuntime, given: Given, counts: &Counts) -> io::Result<()> {
     )
 }
 
+/// Prints what came of a schedule.
+fn tell_schedule(rt: &HostRuntime, outcome: Outcome) -> io::Result<()> {
+    println!(rt;
+        "of {} batches it executed {}, after {} late ones, with {} needs",
+        outcome.batches, outcome.executed, outcome.late, outcome.needs
+    )
+}
+
 /// Makes all plays up to the first that is wrong: the status.
 fn play_all<R: Threads + Wait + Sync + Print>(
     rt: &HostRuntime,
@@ -98,6 +117,9 @@ fn play_all<R: Threads + Wait + Sync + Print>(
         }
     }
     tell(rt, given, &counts)?;
+    if given.schedule.is_some() {
+        tell_schedule(rt, counts.outcome)?;
+    }
     Ok(if counts.plays == 0 { CANNOT } else { 0 })
 }
 
@@ -125,7 +147,7 @@ fn main(rt: HostRuntime) -> ExitCode {
         Ok(given) => ended(play_all(&rt, &rt, given)),
         Err(WordsFault::NoMemory) => fail(eprintln!(rt; "refused: 1 NoMemory")),
         Err(WordsFault::Usage) => fail(eprintln!(rt;
-            "usage: site_plays --u U --seeds FIRST..LAST --events N [--seed N] [--wrong KIND]"
+            "usage: site_plays --u U --seeds FIRST..LAST --events N [--seed N] [--wrong KIND] [--schedule KIND]"
         )),
     }
 }

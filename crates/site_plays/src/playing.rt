@@ -1,6 +1,7 @@
 //! One play.
 
 use crate::given::Given;
+use crate::schedules::Outcome;
 use crate::site::Site;
 use crate::wrong::Wrong;
 use std::alloc::Global;
@@ -35,6 +36,8 @@ pub struct Counts {
     pub ends: u64,
     /// Requests for which nobody waits, since a process ended.
     pub left: u64,
+    /// What came of the last schedule.
+    pub outcome: Outcome,
 }
 
 impl Counts {
@@ -85,7 +88,13 @@ fn play_site<R: Threads + Wait + Sync + Print>(
     if site.open(alloc).is_err() || !site.set_up(rt, alloc) {
         return Played::NotOpened;
     }
-    let at = drive(rt, alloc, site, given);
+    let at = match given.schedule {
+        None => drive(rt, alloc, site, given),
+        Some(schedule) => {
+            counts.outcome = site.keep_to(rt, alloc, schedule, given.events);
+            given.events
+        }
+    };
     counts.add(site);
     match site.judge.wrong {
         Some(wrong) => Played::Wrong { at, wrong },

@@ -3,6 +3,7 @@
 use crate::asking::{Ask, asked};
 use crate::event::{Event, any_event};
 use crate::given::{Given, Planted};
+use crate::holder::{Holder, is_decree, kind_of};
 use crate::judge::{COUNTERS, Judge};
 use crate::net::Net;
 use crate::process::Process;
@@ -12,6 +13,7 @@ use crate::wrong::Wrong;
 use decrees::{Letter, Node};
 use ensemble::Config;
 use exec_lines::Body;
+use following::{ExecutorReport, Following, HeldLetter};
 use letters::{is_bulk, read, to_text};
 use member::Member;
 use proto::Fault;
@@ -26,6 +28,7 @@ pub struct Site {
     pub u: u8,
     /// Of each member.
     pub processes: Vec<Process>,
+    pub holders: Vec<Holder>,
     pub net: Net,
     pub watches: Vec<Watch>,
     pub seen: Seen,
@@ -36,6 +39,8 @@ pub struct Site {
     trouble: u32,
     /// In the end: which member works seldom.
     pub slow: Option<usize>,
+    /// The member whose process does not begin again. What is said to it is lost.
+    pub away: Option<usize>,
     /// With a planted fault: orders that come after the decrees on them.
     pub orders: Vec<Letter<Body>>,
     pub ticks: u32,
@@ -73,6 +78,18 @@ fn watches(alloc: Global, members: usize) -> Result<Vec<Watch>, AllocError> {
     Ok(watches)
 }
 
+/// What so many members hold for their executors at first, which is nothing.
+fn holders(alloc: Global, u: u8) -> Result<Vec<Holder>, AllocError>
+    requires { u < 4 }
+{
+    let mut holders = Vec::new(alloc);
+    for id in 0..2 * u + 1 {
+        let holder = Holder::new(alloc, Following::new(u, id), usize::from(2 * u + 1))?;
+        holders.push(holder)?;
+    }
+    Ok(holders)
+}
+
 /// Of how many letters one is lost: of almost all, of many, or of few.
 fn any_trouble(words: &mut Words) -> u32 {
     match words.below(3) {
@@ -88,6 +105,7 @@ impl Site {
         let count = 2 * usize::from(given.u) + 1;
         let net = Net::new(alloc, count)?;
         let watches = watches(alloc, count)?;
+        let holders = holders(alloc, given.u)?;
         let seen = Seen::new(alloc, count)?;
         let judge = Judge::new(alloc, count.saturating_mul(usize::from(PROXIES)))?;
         let mut words = Words::new(seed);
@@ -95,6 +113,7 @@ impl Site {
         Ok(Site {
             u: given.u,
             processes: Vec::new(alloc),
+            holders,
             net,
             watches,
             seen,
@@ -103,6 +122,7 @@ impl Site {
             planted: given.planted,
             trouble,
             slow: None,
+            away: None,
             orders: Vec::new(alloc),
             ticks: 0,
             suspicions: 0,
@@ -135,6 +155,7 @@ impl Site {
         let Site {
             u: _,
             processes,
+            holders,
             net,
             watches,
             seen,
@@ -143,6 +164,7 @@ impl Site {
             planted: _,
             trouble: _,
             slow: _,
+            away: _,
             orders,
             ticks: _,
             suspicions: _,
@@ -151,6 +173,7 @@ impl Site {
             lost: _,
         } = self;
         end_all(processes);
+        drop(holders);
         drop(net);
         drop(watches);
         drop(seen);
@@ -174,6 +197,19 @@ impl Site {
         self.member(id).is_some()
     }
 
+    /// How far the member's executor was when it worked last, if that is known.
+    pub fn report(&self, id: usize) -> Option<ExecutorReport> {
+        self.holders.get(id)?.report
+    }
+
+    /// The number of the member's executor. 0: it is down.
+    pub fn number(&self, id: usize) -> u64 {
+        match self.member(id) {
+            Some(member) => member.number().unwrap_or(0),
+            None => 0,
+        }
+    }
+
     /// What happens next, by chance.
     pub fn next_event(&mut self) -> Event {
         let members = 2 * u32::from(self.u) + 1;
@@ -189,9 +225,9 @@ impl Site {
         }
     }
 
-    /// Whether a planted fault loses what the one member says to the other one.
+    /// Whether what the one member says to the other one is lost: by a planted fault, or since that is away.
     fn is_lost(&self, from: usize, to: usize) -> bool {
-        self.planted == Some(Planted::Lost) && from == 0 && to == 1
+        self.away == Some(to) || self.planted == Some(Planted::Lost) && from == 0 && to == 1
     }
 
     /// The letter leaves the member, and is to be sent. It is lost if there is no memory for that.
@@ -215,21 +251,52 @@ impl Site {
             && matches!(letter.body, Body::Order(_))
     }
 
-    /// The letter comes to its member.
-    pub fn hand_in(&mut self, letter: Letter<Body>) {
-        let to = home(letter.to);
-        self.look(to, &letter);
-        if let Some(member) = self.member_mut(to) {
+    /// The letter comes in.
+    pub fn hand_in(&mut self, id: usize, letter: Letter<Body>) {
+        if let Some(member) = self.member_mut(id) {
             member.come(letter);
+        }
+    }
+
+    /// Whether members hold such letters: with a planted fault no decrees.
+    fn may_hold(&self, kind: HeldLetter) -> bool {
+        self.planted != Some(Planted::Early) || !is_decree(kind)
+    }
+
+    /// The letter, which is of this kind, is held for the member's executor. If it is not known how far that is the letter
+    /// comes in.
+    fn hold(&mut self, id: usize, kind: HeldLetter, letter: Letter<Body>) {
+        let Some(report) = self.report(id) else {
+            self.hand_in(id, letter);
+            return;
+        };
+        if let Some(holder) = self.holders.get_mut(id) {
+            holder.hold(report, kind, letter);
+        }
+    }
+
+    /// The letter has come to its member, which holds it if it may: whether it came in.
+    pub fn arrive(&mut self, letter: Letter<Body>) -> bool {
+        let id = home(letter.to);
+        match kind_of(&letter) {
+            Some(kind) if self.may_hold(kind) => {
+                self.hold(id, kind, letter);
+                false
+            }
+            _ => {
+                self.hand_in(id, letter);
+                true
+            }
         }
     }
 
     /// The letter comes to its member, unless a planted fault delays it.
     fn come_in(&mut self, letter: Letter<Body>) {
+        self.look(home(letter.to), &letter);
         if self.is_early(&letter) {
             let _ = self.orders.push(letter);
         } else {
-            self.hand_in(letter);
+            self.arrive(letter);
         }
     }
 

@@ -26,7 +26,7 @@ impl Site {
 
     /// Another process of the member begins at times, if the one before has ended. It has observed nothing.
     fn go_on(&mut self, alloc: Global, id: usize) {
-        if self.is_running(id) || !self.words.one_in(3) {
+        if self.is_running(id) || self.away == Some(id) || !self.words.one_in(3) {
             return;
         }
         if let Some(process) = self.processes.get_mut(id) {
@@ -56,14 +56,6 @@ impl Site {
             }
         }
         false
-    }
-
-    /// The number of the member's executor. 0: it is down.
-    fn number(&self, id: usize) -> u64 {
-        match self.member(id) {
-            Some(member) => member.number().unwrap_or(0),
-            None => 0,
-        }
     }
 
     /// Whether it is time for the member to suspect the leader.
@@ -108,6 +100,9 @@ impl Site {
         self.open_again(alloc, id, Replica::Verifier(number));
         self.connect(id);
         self.watch(alloc, id);
+        if let Some(holder) = self.holders.get_mut(id) {
+            holder.tick();
+        }
     }
 
     /// A tenth of a second passes for all members.
