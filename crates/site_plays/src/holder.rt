@@ -186,7 +186,10 @@ impl Holder {
 
     /// The letter at this index is not held any more.
     fn take(&mut self, i: usize) -> Option<Letter<Body>> {
-        if self.letters.len() <= i || self.kinds.len() <= i {
+        if self.letters.len() <= i {
+            return None;
+        }
+        if self.kinds.len() <= i {
             return None;
         }
         self.kinds.swap_remove(i);

@@ -204,7 +204,7 @@ impl Site {
             Schedule::Slow => self.be_slow(rt, alloc, batches),
             Schedule::Away => self.be_back(rt, alloc, batches),
         };
-        if outcome.executed < outcome.batches / 10 * 9 {
+        if outcome.executed < (outcome.batches / 10).saturating_mul(9) {
             self.judge.refuse(Wrong::Behind);
         }
         outcome

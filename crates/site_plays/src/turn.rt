@@ -23,7 +23,7 @@ const TICKS: u32 = 10;
 /// The most bytes that come on a lane while the process at its other end ends.
 const MOST_BYTES: u32 = 6000;
 
-/// More steps of a member in a turn than it holds letters.
+/// More steps of a member in a turn than it takes with what it holds.
 const MOST_STEPS: u32 = 20_000;
 
 /// What a member has to say when it has worked.
@@ -259,10 +259,14 @@ impl Site {
         }
     }
 
-    /// Some of what the member has to say leaves, and some of that comes.
-    fn leave_some(&mut self, alloc: Global, id: usize, said: &Said) {
-        self.say_some(alloc, id, said);
-        self.others_hear(alloc, id);
+    /// What the member did is saved, unless its process ends before that. Then some of what it has to say leaves. With a
+    /// planted fault all of it leaves, and nothing is saved.
+    fn save_up_to(&mut self, alloc: Global, id: usize, said: &Said, point: EndPoint) {
+        if self.planted == Some(Planted::Unsaved) {
+            self.say(alloc, id, said);
+        } else if point != EndPoint::Unsaved && self.save(alloc, id) && point == EndPoint::Leaving {
+            self.say_some(alloc, id, said);
+        }
     }
 
     /// The member works, and its process ends at this point.
@@ -277,11 +281,8 @@ impl Site {
             return;
         }
         let said = self.said(rt, alloc, id);
-        let is_early = self.planted == Some(Planted::Unsaved);
-        let is_saved = !is_early && point != EndPoint::Unsaved && self.save(alloc, id);
-        if is_early || is_saved && point == EndPoint::Leaving {
-            self.leave_some(alloc, id, &said);
-        }
+        self.save_up_to(alloc, id, &said, point);
+        self.others_hear(alloc, id);
         self.stop(alloc, id);
     }
 
