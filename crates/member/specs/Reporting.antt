@@ -19,11 +19,22 @@ pub record IsExtentOf (s : ExecutorState) (r : ExecutorReport) : Type 0 where
   pub epoch : r.epoch ≡ s.standing.epoch
   pub chain : r.chain ≡ length s.chain.members
 
--- The same of what was saved, whose chain is known by its text.
+-- how far it is by what was saved, with this chain
+abbrev pub extent : Saved → ChainView → Bool → ExecutorReport
+extent saved chain is_running = record {
+  number = chain.have.number;
+  known = saved.known;
+  standing = saved.standing.n;
+  epoch = saved.standing.epoch;
+  chain = length chain.members;
+  is_running = is_running;
+}
+
+-- the same with the chain of which the text was saved
 pub record IsExtentOfSaved (saved : Saved) (is_running : Bool) (r : ExecutorReport) : Type 0 where
   pub chain : ChainView
   pub text : saved.chain ≡ chain_text chain
-  pub is : r ≡ record { number = chain.have.number; known = saved.known; standing = saved.standing.n; epoch = saved.standing.epoch; chain = length chain.members; is_running = is_running }
+  pub is : r ≡ extent saved chain is_running
 
 -- The executor is up. What its keeper has is the record of a state in which it is so far, and it has a batch to run, or not.
 pub record IsReportOf (h : HostView) (r : ExecutorReport) : Type 0 where

@@ -1,20 +1,20 @@
 //! What its executor reports.
 
 ghost use Rattle.std.specs.Prelude.{◌≡◌, IfSome};
-ghost use Rattle.member.specs.Reporting.{IsReportOf, IsExtentOfSaved};
+ghost use Rattle.member.specs.Reporting.{IsReportOf, IsExtentOfSaved, extent};
 
 use crate::member::Member;
 use exec_lines::Saved;
 use following::ExecutorReport;
 use hosts::ExecutorHost;
 use keeper::Keeper;
+use rollback::Chain;
 use std::alloc::Global;
 
-/// How far the executor is of whose state this was saved.
-fn extent_of(alloc: Global, saved: &Saved, is_running: bool) -> Option<ExecutorReport>
-    ensures { IfSome result (λ report. IsExtentOfSaved saved.now is_running report) }
+/// How far the executor is of whose state this was saved, with this chain, which is ended.
+fn extent_of(saved: &Saved, chain: Chain, is_running: bool) -> ExecutorReport
+    ensures { result ≡ extent saved.now chain is_running }
 {
-    let chain = saved.chain.chain(alloc).ok()?;
     let report = ExecutorReport {
         number: chain.committed().number(),
         known: saved.known,
@@ -24,7 +24,17 @@ fn extent_of(alloc: Global, saved: &Saved, is_running: bool) -> Option<ExecutorR
         is_running,
     };
     drop(chain.end());
-    Some(report)
+    report
+}
+
+/// How far the executor is of whose state this was saved. None: there is no memory for it.
+fn saved_extent(alloc: Global, saved: &Saved, is_running: bool) -> Option<ExecutorReport>
+    ensures { IfSome result (λ report. IsExtentOfSaved saved.now is_running report) }
+{
+    match saved.chain.chain(alloc) {
+        Ok(chain) => Some(extent_of(saved, chain, is_running)),
+        Err(_) => None,
+    }
 }
 
 /// What the executor of the host reports.
@@ -37,7 +47,7 @@ fn report_of(alloc: Global, host: &ExecutorHost) -> Option<ExecutorReport>
     let keeper = host.kept().ok()?;
     let saved = keeper.load()?.saved()?;
     let is_running = host.job_len().is_some();
-    extent_of(alloc, saved, is_running)
+    saved_extent(alloc, saved, is_running)
 }
 
 impl Member {
