@@ -1,5 +1,5 @@
 -- What a member reports of its executor.
-use Rattle.std.specs.Prelude.{◌≡◌, ℕ, Bool, true, length, Some, is_some, slice_get}
+use Rattle.std.specs.Prelude.{◌≡◌, ℕ, Bool, true, List, length, Option, Some, is_some, slice_get}
 use Rattle.rollback.specs.Chain.{ChainView, chain_text}
 use Rattle.exec_lines.specs.State.{ExecutorState}
 use Rattle.exec_lines.specs.Record.{executor_text}
@@ -11,15 +11,49 @@ use Rattle.ensemble.specs.Shown.{has_job}
 use Rattle.following.specs.declared.report.ExecutorReport.{ExecutorReport}
 use Rattle.member.specs.Member.{MemberView}
 
--- an executor in this state is so far
-pub record IsExtentOf (s : ExecutorState) (r : ExecutorReport) : Type 0 where
-  pub number : r.number ≡ s.chain.have.number
-  pub known : r.known ≡ s.known
-  pub standing : r.standing ≡ s.standing.n
-  pub epoch : r.epoch ≡ s.standing.epoch
-  pub chain : r.chain ≡ length s.chain.members
+-- how far an executor is in this state
+abbrev pub extent_in : ExecutorState → Bool → ExecutorReport
+extent_in s is_running = record {
+  number = s.chain.have.number;
+  known = s.known;
+  standing = s.standing.n;
+  epoch = s.standing.epoch;
+  chain = length s.chain.members;
+  is_running = is_running;
+}
 
--- how far it is by what was saved, with this chain
+-- This is the record of an executor that is so far.
+pub record IsExtentOfText (text : List ℕ) (is_running : Bool) (r : ExecutorReport) : Type 0 where
+  pub u : ℕ
+  pub id : ℕ
+  pub state : ExecutorState
+  pub recorded : text ≡ executor_text u id state
+  pub is : r ≡ extent_in state is_running
+
+-- it is the record that is kept
+pub record IsExtentOfKept (kept : Option (List ℕ)) (is_running : Bool) (r : ExecutorReport) : Type 0 where
+  pub text : List ℕ
+  pub has : kept ≡ Some text
+  pub is : IsExtentOfText text is_running r
+
+-- The executor is so far by the record that its keeper has, and it has a batch to run, or not.
+abbrev pub IsKeptReport : HostView → ExecutorReport → Type 0
+IsKeptReport h r = IsExtentOfKept (kept_of_host h).saved (has_job h) r
+
+-- it is up, too
+pub record IsReportOf (h : HostView) (r : ExecutorReport) : Type 0 where
+  pub up : is_some (node_at h.slot) ≡ true
+  pub kept : IsKeptReport h r
+
+-- so is the member's own executor
+pub record Reports (v : MemberView) (r : ExecutorReport) : Type 0 where
+  pub host : HostView
+  pub there : slice_get v.nodes.executors v.id ≡ Some host
+  pub is : IsReportOf host r
+
+-- ---- by what was saved
+
+-- how far it is with this chain
 abbrev pub extent : Saved → ChainView → Bool → ExecutorReport
 extent saved chain is_running = record {
   number = chain.have.number;
@@ -30,24 +64,8 @@ extent saved chain is_running = record {
   is_running = is_running;
 }
 
--- the same with the chain of which the text was saved
+-- with the chain of which the text was saved
 pub record IsExtentOfSaved (saved : Saved) (is_running : Bool) (r : ExecutorReport) : Type 0 where
   pub chain : ChainView
   pub text : saved.chain ≡ chain_text chain
   pub is : r ≡ extent saved chain is_running
-
--- The executor is up. What its keeper has is the record of a state in which it is so far, and it has a batch to run, or not.
-pub record IsReportOf (h : HostView) (r : ExecutorReport) : Type 0 where
-  pub up : is_some (node_at h.slot) ≡ true
-  pub u : ℕ
-  pub id : ℕ
-  pub state : ExecutorState
-  pub recorded : (kept_of_host h).saved ≡ Some (executor_text u id state)
-  pub extent : IsExtentOf state r
-  pub running : r.is_running ≡ has_job h
-
--- so is that of the member's own executor
-pub record Reports (v : MemberView) (r : ExecutorReport) : Type 0 where
-  pub host : HostView
-  pub there : slice_get v.nodes.executors v.id ≡ Some host
-  pub is : IsReportOf host r

@@ -1,13 +1,13 @@
 //! What its executor reports.
 
 ghost use Rattle.std.specs.Prelude.{◌≡◌, IfSome};
-ghost use Rattle.member.specs.Reporting.{IsReportOf, IsExtentOfSaved, extent};
+ghost use Rattle.member.specs.Reporting.{IsReportOf, IsKeptReport, IsExtentOfKept, IsExtentOfText, IsExtentOfSaved, extent};
 
 use crate::member::Member;
-use exec_lines::Saved;
+use exec_lines::{ExecutorRecord, Saved};
 use following::ExecutorReport;
 use hosts::ExecutorHost;
-use keeper::Keeper;
+use keeper::{Keeper, MemKeeper};
 use rollback::Chain;
 use std::alloc::Global;
 
@@ -37,17 +37,53 @@ fn saved_extent(alloc: Global, saved: &Saved, is_running: bool) -> Option<Execut
     }
 }
 
-/// What the executor of the host reports.
+/// How far the executor is that has this record. None: there is no memory for it, or the record was read from bytes.
+fn recorded_extent(
+    alloc: Global,
+    record: &ExecutorRecord,
+    is_running: bool,
+) -> Option<ExecutorReport>
+    ensures { IfSome result (λ report. IsExtentOfText record.now is_running report) }
+{
+    match record.saved() {
+        Some(saved) => saved_extent(alloc, saved, is_running),
+        None => None,
+    }
+}
+
+/// How far the executor is with this keeper. None: there is no memory for it, or no record, or that was read from bytes.
+fn kept_extent(
+    alloc: Global,
+    keeper: &MemKeeper<ExecutorRecord>,
+    is_running: bool,
+) -> Option<ExecutorReport>
+    ensures { IfSome result (λ report. IsExtentOfKept keeper.now.saved is_running report) }
+{
+    match keeper.load() {
+        Some(record) => recorded_extent(alloc, record, is_running),
+        None => None,
+    }
+}
+
+/// How far the executor of the host is, by its record, and whether it has a batch to run.
+fn kept_report(alloc: Global, host: &ExecutorHost) -> Option<ExecutorReport>
+    ensures { IfSome result (λ report. IsKeptReport host.now report) }
+{
+    let is_running = host.job_len().is_some();
+    match host.kept() {
+        Ok(keeper) => kept_extent(alloc, &keeper, is_running),
+        Err(_) => None,
+    }
+}
+
+/// What the executor of the host reports, if it is up.
 fn report_of(alloc: Global, host: &ExecutorHost) -> Option<ExecutorReport>
     ensures { IfSome result (λ report. IsReportOf host.now report) }
 {
-    if !host.is_up() {
-        return None;
+    if host.is_up() {
+        return kept_report(alloc, host);
     }
-    let keeper = host.kept().ok()?;
-    let saved = keeper.load()?.saved()?;
-    let is_running = host.job_len().is_some();
-    saved_extent(alloc, saved, is_running)
+    None
 }
 
 impl Member {
@@ -62,7 +98,9 @@ impl Member {
     pub fn report(&self, alloc: Global) -> Option<ExecutorReport>
         ensures { IfSome result (λ report. Reports self.now report) }
     {
-        let host = self.nodes.executors.get(usize::from(self.id))?;
-        report_of(alloc, host)
+        match self.nodes.executors.get(usize::from(self.id)) {
+            Some(host) => report_of(alloc, host),
+            None => None,
+        }
     }
 }
