@@ -9,11 +9,10 @@ use Rattle.exec_lines.specs.declared.record.Saved.{Saved}
 use Rattle.worlds.specs.Status.{node_at}
 use Rattle.hosts.specs.Host.{HostView}
 use Rattle.following.specs.declared.report.ExecutorReport.{ExecutorReport}
-use Rattle.member.specs.Member.{MemberView}
-use Rattle.member.specs.Reporting.{IsExtentOfSaved, IsExtentOfText, IsExtentOfKept, IsKeptReport, IsReportOf, Reports}
+use Rattle.member.specs.Reporting.{IsExtentOfSaved, IsExtentOfText, IsExtentOfKept, IsKeptReport, IsReportOf, IsReportAt}
 
 -- a state of which this is saved, with this chain
-state_of : Saved → ChainView → ExecutorState
+abbrev state_of : Saved → ChainView → ExecutorState
 state_of saved chain = record { known = saved.known; standing = saved.standing; chain = chain; gather = []; work = None }
 
 pub of_text : (text : List ℕ) (saved : Saved) (is_running : Bool) (result : Option ExecutorReport) → text ≡ saved_record saved → IfSome result (λ r. IsExtentOfSaved saved is_running r) → IfSome result (λ r. IsExtentOfText text is_running r)
@@ -34,9 +33,9 @@ pub of_up : (h : HostView) (result : Option ExecutorReport) → is_some (node_at
 of_up h None up e = tt
 of_up h (Some r) up e = record { up = up; kept = e }
 
-pub of_member : (v : MemberView) (h : HostView) (result : Option ExecutorReport) → slice_get v.nodes.executors v.id ≡ Some h → IfSome result (λ r. IsReportOf h r) → IfSome result (λ r. Reports v r)
-of_member v h None there e = tt
-of_member v h (Some r) there e = record { host = h; there = there; is = e }
+pub of_host : (executors : List HostView) (id : ℕ) (h : HostView) (result : Option ExecutorReport) → slice_get executors id ≡ Some h → IfSome result (λ r. IsReportOf h r) → IfSome result (λ r. IsReportAt executors id r)
+of_host executors id h None there e = tt
+of_host executors id h (Some r) there e = record { host = h; there = there; is = e }
 
 -- the same of another keeper and another job, which are these
 pub of_same : (a b : Option (List ℕ)) (x y : Bool) (result : Option ExecutorReport) → a ≡ b → x ≡ y → IfSome result (λ r. IsExtentOfKept a x r) → IfSome result (λ r. IsExtentOfKept b y r)

@@ -9,7 +9,6 @@ use Rattle.hosts.specs.Host.{HostView}
 use Rattle.ensemble.specs.Kept.{kept_of_host}
 use Rattle.ensemble.specs.Shown.{has_job}
 use Rattle.following.specs.declared.report.ExecutorReport.{ExecutorReport}
-use Rattle.member.specs.Member.{MemberView}
 
 -- how far an executor is in this state
 abbrev pub extent_in : ExecutorState → Bool → ExecutorReport
@@ -45,10 +44,10 @@ pub record IsReportOf (h : HostView) (r : ExecutorReport) : Type 0 where
   pub up : is_some (node_at h.slot) ≡ true
   pub kept : IsKeptReport h r
 
--- so is the member's own executor
-pub record Reports (v : MemberView) (r : ExecutorReport) : Type 0 where
+-- so is the executor of this number
+pub record IsReportAt (executors : List HostView) (id : ℕ) (r : ExecutorReport) : Type 0 where
   pub host : HostView
-  pub there : slice_get v.nodes.executors v.id ≡ Some host
+  pub there : slice_get executors id ≡ Some host
   pub is : IsReportOf host r
 
 -- ---- by what was saved

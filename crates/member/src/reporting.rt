@@ -1,7 +1,7 @@
 //! What its executor reports.
 
 ghost use Rattle.std.specs.Prelude.{◌≡◌, IfSome};
-ghost use Rattle.member.specs.Reporting.{IsReportOf, IsKeptReport, IsExtentOfKept, IsExtentOfText, IsExtentOfSaved, extent};
+ghost use Rattle.member.specs.Reporting.{IsReportAt, IsReportOf, IsKeptReport, IsExtentOfKept, IsExtentOfText, IsExtentOfSaved, extent};
 
 use crate::member::Member;
 use exec_lines::{ExecutorRecord, Saved};
@@ -86,9 +86,20 @@ fn report_of(alloc: Global, host: &ExecutorHost) -> Option<ExecutorReport>
     None
 }
 
+/// What the executor of this number reports, if it is there and up.
+#[tactic(auto, using(crate::proofs::Reports::of_host))]
+fn report_at(alloc: Global, executors: &[ExecutorHost], id: u8) -> Option<ExecutorReport>
+    ensures { IfSome result (λ report. IsReportAt executors.now id report) }
+{
+    let Some(host) = executors.get(usize::from(id)) else {
+        return None;
+    };
+    report_of(alloc, host)
+}
+
 impl Member {
     ghost use Rattle.std.specs.Prelude.{IfSome};
-    ghost use Rattle.member.specs.Reporting.{Reports};
+    ghost use Rattle.member.specs.Reporting.{IsReportAt};
 
     /// How far its executor is, by the record that it saved last. Whoever hands letters in decides by that which one comes
     /// next (`following`).
@@ -96,11 +107,8 @@ impl Member {
     /// None: the executor is down, or there is no memory for it, or the executor has saved nothing since its record was read
     /// from bytes.
     pub fn report(&self, alloc: Global) -> Option<ExecutorReport>
-        ensures { IfSome result (λ report. Reports self.now report) }
+        ensures { IfSome result (λ report. IsReportAt self.now.nodes.executors self.now.id report) }
     {
-        match self.nodes.executors.get(usize::from(self.id)) {
-            Some(host) => report_of(alloc, host),
-            None => None,
-        }
+        report_at(alloc, self.nodes.executors.as_slice(), self.id)
     }
 }
