@@ -6,3 +6,4 @@ pub mod Told
 pub mod Ticks
 pub mod Process
 pub mod Record
+pub mod Replicas

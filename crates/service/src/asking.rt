@@ -2,15 +2,14 @@
 
 ghost use Rattle.std.specs.Prelude.{◌≡◌, true};
 ghost use Rattle.connections.specs.Slots.{is_here};
-ghost use Rattle.ensemble.specs.Nodes.{IsFree};
 ghost use Rattle.connections.specs.Told.{IsToldAt};
 ghost use Rattle.service.specs.Steps.{AsksFor, Fails};
 ghost use Rattle.service.specs.Told.{IsToldIfFailed};
 
 use crate::assignment::Assignment;
 use crate::note::Note;
+use crate::replicas::Replicas;
 use connections::{ConnectionId, Connections, Ready, Said};
-use ensemble::Ensemble;
 use figures::Asked;
 use std::alloc::Global;
 
@@ -40,16 +39,16 @@ fn failed(alloc: Global, connections: &mut Connections, at: ConnectionId) -> Sai
 
 /// The command of the connection, if it has one that may be asked, is asked of the proxy, which is free. It is noted
 /// for its count.
-pub fn ask(
+pub fn ask<E: Replicas>(
     alloc: Global,
     connections: &mut Connections,
-    ensemble: &mut Ensemble,
+    replicas: &mut E,
     at: ConnectionId,
     proxy: u16,
     note: &mut Note,
 ) -> Asking
-    requires { IsFree ensemble.old.nodes.proxies proxy }
-    ensures asks { AsksFor at proxy connections.old ensemble.old connections.new ensemble.new result }
+    requires { E.may_ask replicas.old proxy }
+    ensures asks { AsksFor at proxy connections.old (E.as_ensemble replicas.old) connections.new (E.as_ensemble replicas.new) result }
     ensures told { IsToldIfFailed at connections.old.table connections.new.table result }
 {
     let Some(ready) = connections.take(at) else {
@@ -61,7 +60,7 @@ pub fn ask(
         quiet,
     } = ready;
     note.asked = Some(Asked::of(&command));
-    match ensemble.ask(alloc, proxy, command, quiet) {
+    match replicas.ask(alloc, proxy, command, quiet) {
         Ok(number) => Asking::Asked(Assignment {
             connection: at.number,
             turn,

@@ -2,9 +2,10 @@
 
 use crate::limit::Limit;
 use crate::note::Note;
-use crate::replicas::note_node;
+use crate::replicas::Replicas;
+use crate::showing::note_node;
 use connections::Said;
-use ensemble::{Ensemble, Replica, Times};
+use ensemble::{Replica, Times};
 use figures::{Figures, one_more};
 use grammar::Conditions;
 use proto::{Fault, Reply};
@@ -85,25 +86,25 @@ impl Counting {
     }
 
     /// Counts the bytes of the items, if an executor is up. Else what was counted last stays.
-    pub fn look(&mut self, ensemble: &Ensemble) {
-        if let Some(bytes) = ensemble.item_bytes() {
+    pub fn look<E: Replicas>(&mut self, replicas: &E) {
+        if let Some(bytes) = replicas.item_bytes() {
             self.conditions.figures.memory.item_bytes = bytes;
         }
     }
 
     /// Counts the bytes of the items for the limit, if an executor is up.
-    fn look_for_limit(&mut self, ensemble: &Ensemble) {
-        if let Some(bytes) = ensemble.item_bytes() {
+    fn look_for_limit<E: Replicas>(&mut self, replicas: &E) {
+        if let Some(bytes) = replicas.item_bytes() {
             self.limit
                 .found(bytes, self.conditions.asked_bytes, self.micros);
         }
     }
 
     /// Decides whether more may be stored, if there is a limit.
-    pub fn decide(&mut self, ensemble: &Ensemble) {
+    pub fn decide<E: Replicas>(&mut self, replicas: &E) {
         let asked = self.conditions.asked_bytes;
         if self.limit.is_due(asked, self.micros) {
-            self.look_for_limit(ensemble);
+            self.look_for_limit(replicas);
         }
         self.conditions.is_full = self.limit.is_reached(asked);
     }

@@ -31,6 +31,7 @@ mod replicas;
 mod save_fault;
 mod service;
 mod service_record;
+mod showing;
 mod stopping;
 mod ticking;
 mod working;
@@ -46,6 +47,7 @@ pub use process_laws::{
     services_follow_each_other,
 };
 pub use proto::Fault;
+pub use replicas::Replicas;
 pub use save_fault::SaveFault;
 pub use service::Service;
 pub use service_record::ServiceRecord;

@@ -27,7 +27,7 @@ fn pool_of(alloc: Global, replicas: &ProcessRecord) -> Result<Pool, Fault>
     Ok(Pool::new(alloc, count)?)
 }
 
-impl Service {
+impl Service<Ensemble> {
     ghost use Rattle.std.specs.Prelude.{◌≡◌, ◌⊎◌, ◌≤◌, ◌^◌, Err, IfOk, IfErr, length};
     ghost use Rattle.service.specs.Process.{kept_service, HasAll};
     ghost use Rattle.service.specs.Record.{kept_in, IsBegunWith};
@@ -42,7 +42,7 @@ impl Service {
         ensures all { IfOk result (λ r. HasAll self.now) }
         ensures only { IfErr result (λ fault. (fault ≡ Fault.NoMemory) ⊎ (fault ≡ Fault.Stopped)) }
     {
-        let replicas = self.ensemble.record(alloc)?;
+        let replicas = self.replicas.record(alloc)?;
         Ok(ServiceRecord::of(replicas, self.connections.next()))
     }
 
@@ -65,7 +65,7 @@ impl Service {
         let connections = Connections::from(alloc, dialect, kept.next());
         let ensemble = Ensemble::reopen(alloc, kept.into_replicas())?;
         Ok(Service {
-            ensemble,
+            replicas: ensemble,
             connections,
             queue: VecDeque::new(alloc),
             pool,

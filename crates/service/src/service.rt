@@ -9,6 +9,7 @@ use crate::incidents::Incidents;
 use crate::nodes::Nodes;
 use crate::note::Waiting;
 use crate::pool::Pool;
+use crate::replicas::Replicas;
 use connections::{ConnectionId, Connections, Dialect, Said};
 use ensemble::{Config, Ensemble};
 use figures::Figures;
@@ -18,9 +19,10 @@ use std::alloc::Global;
 use std::collections::VecDeque;
 use std::marker::Model;
 
-/// Connections over the client proxies of one ensemble. It cannot be dropped: `end` ends it.
-pub struct Service {
-    pub(crate) ensemble: Ensemble,
+/// Connections over client proxies of these replicas: of one ensemble, if no other type is named. It cannot be dropped:
+/// `end` ends it.
+pub struct Service<E: Replicas = Ensemble> {
+    pub(crate) replicas: E,
     pub(crate) connections: Connections,
     /// Those whose command waits for a proxy, in order. Some may have left.
     pub(crate) queue: VecDeque<Waiting>,
@@ -35,7 +37,7 @@ pub struct Service {
     pub(crate) assignments: Log<Assignment, u16>,
 }
 
-impl Model for Service {
+impl<E: Replicas> Model for Service<E> {
     ghost use Rattle.std.specs.Prelude.{◌<◌, ◌+◌};
     ghost use Rattle.connections.specs.contracts.connections.Connections as of_connections;
     ghost use Rattle.sessions.specs.contracts.request.Request as of_request;
@@ -54,27 +56,19 @@ impl Model for Service {
 
     ghost coded = { service_code of_connections.the_row.coded of_request.the_row.coded of_reply.the_row.coded of_noted.the_row.coded of_assignment.the_row.coded of_outstanding.the_row.coded of_waiting.the_row.coded of_ensemble.the_row.coded of_pause.the_row.coded };
 
-    ghost view = { λ s. record { connections = s.connections; asked = s.ensemble.asked; answered = s.ensemble.answered; order = s.ensemble.order; assignments = assigned s.assignments.items; waiting = s.pool; queue = s.queue.items; replicas = record { ensemble = s.ensemble; refused = s.refused + s.ensemble.refused; pauses = s.nodes.pauses.items } } };
+    ghost view = { λ s. record { connections = s.connections; asked = (E.as_ensemble s.replicas).asked; answered = (E.as_ensemble s.replicas).answered; order = (E.as_ensemble s.replicas).order; assignments = assigned s.assignments.items; waiting = s.pool; queue = s.queue.items; replicas = record { ensemble = E.as_ensemble s.replicas; refused = s.refused + (E.as_ensemble s.replicas).refused; pauses = s.nodes.pauses.items } } };
 
-    ghost invariant = { λ s. IsService (record { connections = s.connections; asked = s.ensemble.asked; answered = s.ensemble.answered; order = s.ensemble.order; assignments = assigned s.assignments.items; waiting = s.pool; queue = s.queue.items; replicas = none_shown })
-        × HasMoments (record { connections = s.connections; asked = s.ensemble.asked; answered = s.ensemble.answered; order = s.ensemble.order; assignments = assigned s.assignments.items; waiting = s.pool; queue = s.queue.items; replicas = none_shown }) × HavePauses s.u s.ensemble.nodes s.nodes.members s.nodes.pauses.items × Remembers s.queue.items s.pool s.connections.table };
+    ghost invariant = { λ s. IsService (record { connections = s.connections; asked = (E.as_ensemble s.replicas).asked; answered = (E.as_ensemble s.replicas).answered; order = (E.as_ensemble s.replicas).order; assignments = assigned s.assignments.items; waiting = s.pool; queue = s.queue.items; replicas = none_shown })
+        × HasMoments (record { connections = s.connections; asked = (E.as_ensemble s.replicas).asked; answered = (E.as_ensemble s.replicas).answered; order = (E.as_ensemble s.replicas).order; assignments = assigned s.assignments.items; waiting = s.pool; queue = s.queue.items; replicas = none_shown }) × HavePauses s.u (E.as_ensemble s.replicas).nodes s.nodes.members s.nodes.pauses.items × Remembers s.queue.items s.pool s.connections.table };
 }
 
-impl Service {
-    ghost use Rattle.std.specs.Prelude.{◌≡◌, ◌≢◌, ◌<◌, ◌≤◌, ◌+◌, ◌-◌, ◌^◌, ◌++◌, ◌∷◌, ◌⊎◌, ℕ, Bool, [], min, true, false, None, Some, Err, is_some, IfOk, IfErr, OnOk, OnErr};
-    ghost use Rattle.grammar.specs.Reads.{with_mark};
-    ghost use Rattle.connections.specs.Connection.{new_connection};
-    ghost use Rattle.connections.specs.Slots.{slot_in, is_here, left_at, written_at, HasSameOthers, IsGrown};
-    ghost use Rattle.connections.specs.Connections.{HasSameLogs, no_connections};
-    ghost use Rattle.connections.specs.declared.table.TheConstants.{MOST_SLOTS};
-    ghost use Rattle.connections.specs.Told.{IsToldAt};
-    ghost use Rattle.service.specs.Service.{HasSameRequests, IsSameProcess, Hears};
-    ghost use Rattle.service.specs.Process.{IsServiceAlone, IsProcess};
-    ghost use Rattle.ensemble.specs.Process.{IsEnsembleAfter};
+impl Service<Ensemble> {
+    ghost use Rattle.std.specs.Prelude.{◌≡◌, [], None, IfOk, IfErr};
+    ghost use Rattle.connections.specs.Connections.{no_connections};
     ghost use Rattle.ensemble.specs.First.{AreAllUp};
-    ghost use Rattle.service.specs.Steps.{NoneWaits};
-    ghost use Rattle.service.specs.Owed.{AllWait, IsFreeIn};
-    ghost use Rattle.service.specs.Ticks.{AreAllUpIn, EachHasPause};
+    ghost use Rattle.ensemble.specs.Process.{IsEnsembleAfter};
+    ghost use Rattle.service.specs.Process.{IsServiceAlone, IsProcess};
+    ghost use Rattle.service.specs.Ticks.{EachHasPause};
 
     /// A service to which no connection came, over `2u + 1` executors, as many verifiers, and as many proxies as
     /// the config has clients. What connections send is read in this grammar.
@@ -95,7 +89,7 @@ impl Service {
         let members = nodes.members();
         let ensemble = Ensemble::open(alloc, config)?;
         Ok(Service {
-            ensemble,
+            replicas: ensemble,
             connections: Connections::new(alloc, dialect),
             queue: VecDeque::new(alloc),
             pool,
@@ -107,6 +101,33 @@ impl Service {
             assignments: Log::new(),
         })
     }
+
+    /// What always holds of it: of itself alone, of its replicas, and of all that was asked and given, also before its process
+    /// began if it was reopened. It does nothing.
+    pub fn shows(&self)
+        ensures own { IsServiceAlone self.now }
+        ensures ensemble { IsEnsembleAfter self.now.replicas.ensemble.found self.now.replicas.ensemble }
+        ensures process { IsProcess self.now }
+        ensures pauses { EachHasPause self.now.replicas }
+    {
+        self.shows_alone();
+        self.replicas.shows();
+    }
+}
+
+impl<E: Replicas> Service<E> {
+    ghost use Rattle.std.specs.Prelude.{◌≡◌, ◌≢◌, ◌<◌, ◌≤◌, ◌+◌, ◌-◌, ◌^◌, ◌++◌, ◌∷◌, ◌⊎◌, ℕ, Bool, min, true, false, None, Some, Err, is_some, IfOk, IfErr, OnOk, OnErr};
+    ghost use Rattle.grammar.specs.Reads.{with_mark};
+    ghost use Rattle.connections.specs.Connection.{new_connection};
+    ghost use Rattle.connections.specs.Slots.{slot_in, is_here, left_at, written_at, HasSameOthers, IsGrown};
+    ghost use Rattle.connections.specs.Connections.{HasSameLogs};
+    ghost use Rattle.connections.specs.declared.table.TheConstants.{MOST_SLOTS};
+    ghost use Rattle.connections.specs.Told.{IsToldAt};
+    ghost use Rattle.service.specs.Service.{HasSameRequests, IsSameProcess, Hears};
+    ghost use Rattle.service.specs.Process.{IsServiceAlone};
+    ghost use Rattle.service.specs.Steps.{NoneWaits};
+    ghost use Rattle.service.specs.Owed.{AllWait, IsFreeIn};
+    ghost use Rattle.service.specs.Ticks.{AreAllUpIn, EachHasPause};
 
     /// A connection comes. `key` is where the event loop keeps it, and is used again after it left; `number` is
     /// above those of all connections that came before.
@@ -149,7 +170,7 @@ impl Service {
         ensures requests { HasSameRequests self.old self.new }
         ensures process { IsSameProcess self.old self.new }
     {
-        self.counting.decide(&self.ensemble);
+        self.counting.decide(&self.replicas);
         let micros = self.counting.micros();
         let heard = hear_at(
             alloc,
@@ -229,14 +250,14 @@ impl Service {
     pub fn refused(&self) -> u64
         ensures { result ≡ min self.now.replicas.refused (2 ^ 64 - 1) }
     {
-        self.refused.saturating_add(self.ensemble.refused())
+        self.refused.saturating_add(self.replicas.refused())
     }
 
     /// What it has come through.
     pub fn incidents(&self) -> Incidents {
         Incidents {
             suspicions: self.suspicions,
-            rollbacks: self.ensemble.epoch().saturating_sub(1),
+            rollbacks: self.replicas.epoch().saturating_sub(1),
         }
     }
 
@@ -253,7 +274,7 @@ impl Service {
     pub fn figures(&mut self) -> Figures
         ensures same { self.new ≡ self.old }
     {
-        self.counting.look(&self.ensemble);
+        self.counting.look(&self.replicas);
         let mut figures = self.counting.conditions.figures;
         self.show_replicas(&mut figures);
         figures.memory.refusals = self.refused().saturating_add(self.counting.closed());
@@ -277,22 +298,18 @@ impl Service {
         self.counting.see(seen);
     }
 
-    /// What always holds of it: of itself alone, of its replicas, and of all that was asked and given, also before its process
-    /// began if it was reopened. It does nothing.
-    pub fn shows(&self)
+    /// What always holds of it of itself alone, whatever holds of its replicas. It does nothing.
+    pub fn shows_alone(&self)
         ensures own { IsServiceAlone self.now }
-        ensures ensemble { IsEnsembleAfter self.now.replicas.ensemble.found self.now.replicas.ensemble }
-        ensures process { IsProcess self.now }
         ensures pauses { EachHasPause self.now.replicas }
     {
         self.connections.always();
-        self.ensemble.shows();
     }
 
     /// Ends it.
     pub fn end(self) {
         let Service {
-            ensemble,
+            replicas,
             connections,
             queue,
             pool,
@@ -304,7 +321,7 @@ impl Service {
             assignments: _,
         } = self;
         drop(counting);
-        ensemble.end();
+        replicas.end();
         drop(connections);
         drop(queue);
         drop(pool);

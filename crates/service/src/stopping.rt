@@ -1,9 +1,10 @@
 //! A node that stops.
 
+use crate::replicas::Replicas;
 use crate::service::Service;
 use ensemble::Replica;
 
-impl Service {
+impl<E: Replicas> Service<E> {
     ghost use Rattle.std.specs.Prelude.{◌≡◌, false};
     ghost use Rattle.ensemble.specs.Nodes.{size_of};
     ghost use Rattle.ensemble.specs.Shown.{is_up_at};
@@ -23,6 +24,6 @@ impl Service {
         ensures stops { IsStopped replica self.old.replicas.ensemble.nodes self.new.replicas.ensemble.nodes }
         ensures down { is_up_at self.new.replicas.ensemble.nodes replica ≡ false }
     {
-        self.ensemble.stop(replica);
+        self.replicas.stop(replica);
     }
 }

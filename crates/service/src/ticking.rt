@@ -7,63 +7,63 @@ ghost use Rattle.service.specs.Steps.{KeepsWaits};
 ghost use Rattle.service.specs.Owed.{KeepsOwed};
 
 use crate::pool::Pool;
-use crate::replicas::note_node;
+use crate::replicas::Replicas;
 use crate::service::Service;
-use ensemble::{Ensemble, Replica};
+use crate::showing::note_node;
 use serving::{Seen, Urge};
 use std::alloc::Global;
 
 /// The proxy in this slot asks again.
-fn ask_again(alloc: Global, pool: &mut Pool, ensemble: &mut Ensemble, at: usize, seen: Seen)
+fn ask_again<E: Replicas>(alloc: Global, pool: &mut Pool, replicas: &mut E, at: usize, seen: Seen)
     ensures after { SetsPatience (sent_again seen) at pool.old pool.new }
-    ensures counted { ensemble.old.refused ≤ ensemble.new.refused }
+    ensures counted { (E.as_ensemble replicas.old).refused ≤ (E.as_ensemble replicas.new).refused }
     ensures waits { KeepsWaits pool.old pool.new }
     ensures owed { KeepsOwed pool.old pool.new }
-    ensures asked { ensemble.new.asked ≡ ensemble.old.asked }
-    ensures answered { ensemble.new.answered ≡ ensemble.old.answered }
-    ensures order { ensemble.new.order ≡ ensemble.old.order }
-    ensures found { ensemble.new.found ≡ ensemble.old.found }
-    ensures size { size_of ensemble.new.nodes ≡ size_of ensemble.old.nodes }
+    ensures asked { (E.as_ensemble replicas.new).asked ≡ (E.as_ensemble replicas.old).asked }
+    ensures answered { (E.as_ensemble replicas.new).answered ≡ (E.as_ensemble replicas.old).answered }
+    ensures order { (E.as_ensemble replicas.new).order ≡ (E.as_ensemble replicas.old).order }
+    ensures found { (E.as_ensemble replicas.new).found ≡ (E.as_ensemble replicas.old).found }
+    ensures size { size_of (E.as_ensemble replicas.new).nodes ≡ size_of (E.as_ensemble replicas.old).nodes }
 {
     if let Some(proxy) = pool.ask_again(at, seen) {
-        ensemble.again(alloc, proxy);
+        replicas.again(alloc, proxy);
     }
 }
 
 /// What is due of the proxy in this slot: whether the leader is suspected.
-fn tick_at(
+fn tick_at<E: Replicas>(
     alloc: Global,
     pool: &mut Pool,
-    ensemble: &mut Ensemble,
+    replicas: &mut E,
     at: usize,
     u: u8,
     seen: Seen,
 ) -> bool
     requires { u < 4 }
     ensures after { SetsPatience (waited_on u seen) at pool.old pool.new }
-    ensures counted { ensemble.old.refused ≤ ensemble.new.refused }
+    ensures counted { (E.as_ensemble replicas.old).refused ≤ (E.as_ensemble replicas.new).refused }
     ensures waits { KeepsWaits pool.old pool.new }
     ensures owed { KeepsOwed pool.old pool.new }
-    ensures asked { ensemble.new.asked ≡ ensemble.old.asked }
-    ensures answered { ensemble.new.answered ≡ ensemble.old.answered }
-    ensures order { ensemble.new.order ≡ ensemble.old.order }
-    ensures found { ensemble.new.found ≡ ensemble.old.found }
-    ensures size { size_of ensemble.new.nodes ≡ size_of ensemble.old.nodes }
+    ensures asked { (E.as_ensemble replicas.new).asked ≡ (E.as_ensemble replicas.old).asked }
+    ensures answered { (E.as_ensemble replicas.new).answered ≡ (E.as_ensemble replicas.old).answered }
+    ensures order { (E.as_ensemble replicas.new).order ≡ (E.as_ensemble replicas.old).order }
+    ensures found { (E.as_ensemble replicas.new).found ≡ (E.as_ensemble replicas.old).found }
+    ensures size { size_of (E.as_ensemble replicas.new).nodes ≡ size_of (E.as_ensemble replicas.old).nodes }
 {
     match pool.tick(at, u, seen) {
         Urge::Wait => false,
         Urge::Again => {
-            ask_again(alloc, pool, ensemble, at, seen);
+            ask_again(alloc, pool, replicas, at, seen);
             false
         }
         Urge::Suspect => {
-            ask_again(alloc, pool, ensemble, at, seen);
+            ask_again(alloc, pool, replicas, at, seen);
             true
         }
     }
 }
 
-impl Service {
+impl<E: Replicas> Service<E> {
     ghost use Rattle.std.specs.Prelude.{◌≡◌, ◌<◌, ◌≤◌, Bool, true, false, slice_get};
     ghost use Rattle.ensemble.specs.Nodes.{size_of};
     ghost use Rattle.service.specs.Ticks.{waited_on, is_up_in, SetsPatience, HaveWaited, NodeTicks, IsOpenedIf, OthersStay, HavePaused, NodesHaveTicked, HasSameAsked, AreAllUpIn};
@@ -72,7 +72,7 @@ impl Service {
     fn is_node_up(&self, at: u8) -> bool
         ensures { result ≡ is_up_in self.now.replicas.ensemble.nodes at }
     {
-        self.ensemble.is_up(self.nodes.replica(at))
+        self.replicas.is_up(self.nodes.replica(at))
     }
 
     /// Whether a node is down.
@@ -91,7 +91,7 @@ impl Service {
     pub(crate) fn has_asked_for_nobody(&self) -> bool {
         for at in 0..self.pool.count() {
             if let Some(proxy) = self.pool.free_at(at) {
-                if !self.ensemble.is_free(proxy) {
+                if !self.replicas.is_free(proxy) {
                     return true;
                 }
             }
@@ -110,10 +110,10 @@ impl Service {
         ensures counted { self.old.replicas.refused ≤ self.new.replicas.refused }
     {
         let replica = self.nodes.replica(at);
-        let is_up = self.ensemble.is_up(replica);
+        let is_up = self.replicas.is_up(replica);
         note_node(&mut self.counting.conditions.figures, replica, is_up);
         if self.nodes.tick(at, is_up) {
-            let is_back = self.ensemble.restart(alloc, replica);
+            let is_back = self.replicas.restart(alloc, replica);
             note_node(&mut self.counting.conditions.figures, replica, is_back);
         }
     }
@@ -143,7 +143,7 @@ impl Service {
     {
         self.suspicions = self.suspicions.wrapping_add(1);
         let members = u64::from(2 * self.u + 1);
-        self.ensemble
+        self.replicas
             .suspect(alloc, (self.suspicions % members) as u8);
     }
 
@@ -157,7 +157,7 @@ impl Service {
         ensures paused { self.new.replicas.pauses ≡ self.old.replicas.pauses }
         ensures counted { self.old.replicas.refused ≤ self.new.replicas.refused }
     {
-        tick_at(alloc, &mut self.pool, &mut self.ensemble, at, u, seen)
+        tick_at(alloc, &mut self.pool, &mut self.replicas, at, u, seen)
     }
 
     /// What is due of all proxies: whether the leader is suspected.
@@ -170,7 +170,7 @@ impl Service {
         ensures counted { self.old.replicas.refused ≤ self.new.replicas.refused }
     {
         let u = self.u;
-        let seen = self.ensemble.seen();
+        let seen = self.replicas.seen();
         let mut is_suspected = false;
         for at in 0..self.pool.count() {
             if self.tick_proxy(alloc, at, u, seen) {
@@ -191,8 +191,8 @@ impl Service {
         ensures counted { self.old.replicas.refused ≤ self.new.replicas.refused }
     {
         if let Some(proxy) = self.pool.free_at(at) {
-            if !self.ensemble.is_free(proxy) {
-                self.ensemble.again(alloc, proxy);
+            if !self.replicas.is_free(proxy) {
+                self.replicas.again(alloc, proxy);
             }
         }
     }
@@ -224,7 +224,7 @@ impl Service {
         if !self.has_asked_for_nobody() {
             return false;
         }
-        let seen = self.ensemble.seen();
+        let seen = self.replicas.seen();
         let urge = self.nodes.gone.tick(self.u, seen);
         if urge == Urge::Wait {
             return false;

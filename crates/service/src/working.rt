@@ -3,7 +3,6 @@
 ghost use Rattle.std.specs.Prelude.{List, Option, true, ◌≡◌, ◌<◌, ◌≤◌, ◌-◌, ◌^◌, IfSome, IfNone};
 ghost use Rattle.std.specs.Vec.{vec_len, vec_capacity};
 ghost use Rattle.std.specs.VecDeque.{deque_len, deque_capacity};
-ghost use Rattle.ensemble.specs.Nodes.{IsFree};
 ghost use Rattle.service.specs.declared.assignment.Outstanding.{Outstanding as OutstandingView};
 ghost use Rattle.service.specs.Service.{AnswersTo, assigned};
 ghost use Rattle.service.specs.Steps.{Settles};
@@ -15,9 +14,10 @@ use crate::assignment::{Assignment, Outstanding};
 use crate::hearing::enqueue;
 use crate::note::{Note, Waiting};
 use crate::pool::Pool;
+use crate::replicas::Replicas;
 use crate::service::Service;
 use connections::{Connections, Said};
-use ensemble::{Answer, Ensemble};
+use ensemble::Answer;
 use http_server::Log;
 use proto::Reply;
 use serving::Patience;
@@ -59,13 +59,13 @@ fn has_room_for_one(said: &mut Vec<Said>, queue: &mut VecDeque<Waiting>) -> bool
 
 /// The number of the first proxy that waits for nothing and has nothing outstanding. One that had asked when the process
 /// before this one ended has something outstanding, and nobody waits for it.
-fn askable_proxy(pool: &Pool, ensemble: &Ensemble) -> Option<u16>
+fn askable_proxy<E: Replicas>(pool: &Pool, replicas: &E) -> Option<u16>
     ensures pool { IfSome result (λ proxy. IsFreeIn pool.now proxy) }
-    ensures free { IfSome result (λ proxy. IsFree ensemble.now.nodes.proxies proxy) }
+    ensures free { IfSome result (λ proxy. E.may_ask replicas.now proxy) }
 {
     for at in 0..pool.count() {
         if let Some(proxy) = pool.free_at(at) {
-            if ensemble.is_free(proxy) {
+            if replicas.is_free(proxy) {
                 return Some(proxy);
             }
         }
@@ -75,14 +75,14 @@ fn askable_proxy(pool: &Pool, ensemble: &Ensemble) -> Option<u16>
 
 /// The number of a proxy that waits for nothing and has nothing outstanding, if there is one. If all that wait for nothing
 /// have something outstanding nothing can be asked, and that is counted.
-fn free_proxy(pool: &Pool, ensemble: &Ensemble, refused: &mut u64) -> Option<u16>
+fn free_proxy<E: Replicas>(pool: &Pool, replicas: &E, refused: &mut u64) -> Option<u16>
     ensures pool { IfSome result (λ proxy. IsFreeIn pool.now proxy) }
-    ensures free { IfSome result (λ proxy. IsFree ensemble.now.nodes.proxies proxy) }
+    ensures free { IfSome result (λ proxy. E.may_ask replicas.now proxy) }
     ensures none { IfNone result (UnlessRefused refused.old refused.new (AllWait pool.now)) }
     ensures counted { refused.old ≤ refused.new }
 {
     let _ = pool.free()?;
-    if let Some(proxy) = askable_proxy(pool, ensemble) {
+    if let Some(proxy) = askable_proxy(pool, replicas) {
         return Some(proxy);
     }
     refuse(refused);
@@ -166,7 +166,7 @@ fn settle(
     }
 }
 
-impl Service {
+impl<E: Replicas> Service<E> {
     ghost use Rattle.std.specs.Prelude.{◌≡◌, ◌<◌, ◌≤◌, ◌++◌, ◌∷◌, [], true, false, length, map, Contains};
     ghost use Rattle.connections.specs.History.{moment_as};
     ghost use Rattle.ensemble.specs.Nodes.{size_of};
@@ -190,18 +190,18 @@ impl Service {
             refuse(&mut self.refused);
             return false;
         }
-        let Some(proxy) = free_proxy(&self.pool, &self.ensemble, &mut self.refused) else {
+        let Some(proxy) = free_proxy(&self.pool, &self.replicas, &mut self.refused) else {
             return false;
         };
         let Some(waiting) = self.queue.pop_front() else {
             return false;
         };
-        let seen = self.ensemble.seen();
+        let seen = self.replicas.seen();
         let mut note = Note::new(self.counting.since(waiting.since));
         let asking = ask(
             alloc,
             &mut self.connections,
-            &mut self.ensemble,
+            &mut self.replicas,
             waiting.at,
             proxy,
             &mut note,
@@ -304,14 +304,14 @@ impl Service {
         ensures size { size_of self.new.replicas.ensemble.nodes ≡ size_of self.old.replicas.ensemble.nodes }
         ensures rest { RestsUnlessRefused self.old.replicas self.new.replicas }
     {
-        self.ensemble.work(rt, clock, alloc, moment)
+        self.replicas.work(rt, clock, alloc, moment)
     }
 
     /// Counts how long the parts of the batches took that were carried out since this was last called.
     fn count_times(&mut self)
         ensures { self.new ≡ self.old }
     {
-        if let Some(times) = self.ensemble.take_times() {
+        if let Some(times) = self.replicas.take_times() {
             self.counting.work(times);
         }
     }

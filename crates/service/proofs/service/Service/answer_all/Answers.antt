@@ -14,7 +14,7 @@ not_empty answers [] a is none = let clash : ◌≡◌ {A = List Answer} [] (a �
 not_empty answers (b ∷ rest) a is none = let clash : ◌≡◌ {A = List Answer} [] (b ∷ (rest ++ a ∷ [])) = sym none ∙ is in absurd (cc clash)
 
 pub loop-answer-init : goal.loop-answer-init
-loop-answer-init c = record {
+loop-answer-init g c = record {
   logged = c.requires;
   given = gives_none c.args.self.now.connections c.args.said.now.items;
   tells = tells_same c.args.self.now.connections.table c.args.self.now.connections.table c.args.self.now.replicas.refused c.args.self.now.replicas.refused c.args.said.now.items c.args.said.now.items refl refl;
@@ -27,7 +27,7 @@ loop-answer-init c = record {
 }
 
 pub loop-answer-preserved : goal.loop-answer-preserved
-loop-answer-preserved c = record {
+loop-answer-preserved g c = record {
   logged = λ a i. subst (λ (logs : List ((ℕ × ℕ) × replies.Reply) × List ((ℕ × ℕ) × Noted)). Contains logs.0 (answer_entry a) × Contains logs.1 (order_entry a)) (λ j. (sym c.answer.ensures.answered j, sym c.answer.ensures.order j))
       (c.loop-answer.invariant.logged a (subst (λ (xs : List Answer). Contains xs a) (sym c.in-Some.ensures.items) (Contains-append_left c.pop.new.self.items _ a i)));
   given = gives_on c.args.self.now.connections c.loop-answer.self.connections c.answer.new.self.connections c.args.said.now.items c.loop-answer.said.items c.answer.new.said.items c.loop-answer.invariant.given c.answer.ensures.given;
@@ -42,9 +42,9 @@ loop-answer-preserved c = record {
 
 -- the answer that is taken was logged
 pub answer-requires-clause-logged : goal.answer-requires-clause-logged
-answer-requires-clause-logged c =
+answer-requires-clause-logged g c =
     (c.loop-answer.invariant.logged c.in-Some.answer (subst (λ (xs : List Answer). Contains xs c.in-Some.answer) (sym c.in-Some.ensures.items) (Contains-push c.pop.new.self.items c.in-Some.answer))).0
 
 pub answer-requires-clause-ordered : goal.answer-requires-clause-ordered
-answer-requires-clause-ordered c =
+answer-requires-clause-ordered g c =
     (c.loop-answer.invariant.logged c.in-Some.answer (subst (λ (xs : List Answer). Contains xs c.in-Some.answer) (sym c.in-Some.ensures.items) (Contains-push c.pop.new.self.items c.in-Some.answer))).1

@@ -4,7 +4,7 @@ use Rattle.service.specs.Told.{TellsMore}
 use Rattle.service.proofs.service.Service.answer_all.Given as goal
 
 abbrev pub invariant-loop-answer : goal.invariant-loop-answer
-invariant-loop-answer l = record {
+invariant-loop-answer g l = record {
   logged : AreLogged l.answers.items l.self.answered l.self.order;
   given : Gives l.initial.self.connections l.initial.said.items l.self.connections l.said.items;
   tells : TellsMore l.initial.self l.initial.said.items l.self l.said.items;
@@ -17,4 +17,4 @@ invariant-loop-answer l = record {
 }
 
 abbrev pub decreases-loop-answer : goal.decreases-loop-answer
-decreases-loop-answer l = length l.answers.items
+decreases-loop-answer g l = length l.answers.items

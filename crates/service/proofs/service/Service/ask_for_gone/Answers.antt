@@ -2,7 +2,7 @@ use Rattle.std.proofs.Common.{◌∙◌, arith}
 use Rattle.service.proofs.service.Service.ask_for_gone.Goals as goal
 
 pub loop-at-preserved : goal.loop-at-preserved
-loop-at-preserved c =
+loop-at-preserved g c =
     let is = c.ask_for_nobody.ensures in
     let was = c.loop-at.invariant in
     record {

@@ -4,7 +4,7 @@ use Rattle.service.specs.Ticks.{HasSameAsked}
 use Rattle.service.proofs.service.Service.ask_for_gone.Given as goal
 
 abbrev pub invariant-loop-at : goal.invariant-loop-at
-invariant-loop-at l = record {
+invariant-loop-at g l = record {
   connections : l.self.connections ≡ l.initial.self.connections;
   size : size_of l.self.replicas.ensemble.nodes ≡ size_of l.initial.self.replicas.ensemble.nodes;
   asks : HasSameAsked l.initial.self l.self;

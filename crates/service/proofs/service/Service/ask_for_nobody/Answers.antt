@@ -6,12 +6,13 @@ use Rattle.service.proofs.NodeLemmas.{size_keeps}
 use Rattle.service.proofs.service.Service.ask_for_nobody.Goals as goal
 
 pub invariant_of-self : goal.invariant_of-self
-invariant_of-self c =
+invariant_of-self g c =
     let s = c.self.inside in
-    let e = c.again.new.self in
-    let v : ServiceView = record { connections = s.connections; asked = s.ensemble.asked; answered = s.ensemble.answered; order = s.ensemble.order; assignments = assigned s.assignments.items; waiting = s.pool; queue = s.queue.items; replicas = none_shown } in (
+    let shown = g.E.Replicas.as_ensemble s.replicas in
+    let e = g.E.Replicas.as_ensemble c.again.new.self in
+    let v : ServiceView = record { connections = s.connections; asked = shown.asked; answered = shown.answered; order = shown.order; assignments = assigned s.assignments.items; waiting = s.pool; queue = s.queue.items; replicas = none_shown } in (
       tended_keeps v e.asked e.answered e.order s.pool c.self.invariant.0 c.again.ensures.asked c.again.ensures.answered c.again.ensures.order (λ i a w. w),
       same_moments v (record v { asked = e.asked; answered = e.answered; order = e.order }) c.self.invariant.1 refl refl c.again.ensures.order refl c.again.ensures.answered,
-      size_keeps s.u s.nodes.members s.ensemble.nodes e.nodes s.nodes.pauses.items c.self.invariant.2 c.again.ensures.size,
+      size_keeps s.u s.nodes.members shown.nodes e.nodes s.nodes.pauses.items c.self.invariant.2 c.again.ensures.size,
       c.self.invariant.3,
     )

@@ -5,27 +5,27 @@ use Rattle.service.proofs.ToldLemmas.{tells_on, tells_same, unless_on}
 use Rattle.service.proofs.service.Service.assign_all.Goals as goal
 
 pub returns-clause-given : goal.returns-clause-given
-returns-clause-given c =
+returns-clause-given g c =
     gives_on c.args.self.now.connections c.loop-alloc.self.connections c.assign.new.self.connections c.args.said.now.items c.loop-alloc.said.items c.assign.new.said.items c.loop-alloc.invariant.given c.assign.ensures.given
 
 pub returns-clause-tells : goal.returns-clause-tells
-returns-clause-tells c =
+returns-clause-tells g c =
     tells_on _ _ _ _ _ _ c.args.said.now.items c.loop-alloc.said.items c.assign.new.said.items c.loop-alloc.invariant.counted c.assign.ensures.counted c.loop-alloc.invariant.tells c.assign.ensures.tells
 
 pub returns-clause-asks : goal.returns-clause-asks
-returns-clause-asks c = unless_on _ _ _ (AsksAll c.assign.new.self) c.loop-alloc.invariant.counted c.assign.ensures.counted (c.assign.ensures.stops c.loop-alloc-test.false)
+returns-clause-asks g c = unless_on _ _ _ (AsksAll c.assign.new.self) c.loop-alloc.invariant.counted c.assign.ensures.counted (c.assign.ensures.stops c.loop-alloc-test.false)
 
 pub returns-clause-heard : goal.returns-clause-heard
-returns-clause-heard c = c.assign.ensures.heard ∙ c.loop-alloc.invariant.heard
+returns-clause-heard g c = c.assign.ensures.heard ∙ c.loop-alloc.invariant.heard
 
 pub returns-clause-answered : goal.returns-clause-answered
-returns-clause-answered c = c.assign.ensures.answered ∙ c.loop-alloc.invariant.answered
+returns-clause-answered g c = c.assign.ensures.answered ∙ c.loop-alloc.invariant.answered
 
 pub returns-clause-size : goal.returns-clause-size
-returns-clause-size c = c.assign.ensures.size ∙ c.loop-alloc.invariant.size
+returns-clause-size g c = c.assign.ensures.size ∙ c.loop-alloc.invariant.size
 
 pub loop-alloc-init : goal.loop-alloc-init
-loop-alloc-init c = record {
+loop-alloc-init g c = record {
   given = gives_none c.args.self.now.connections c.args.said.now.items;
   tells = tells_same c.args.self.now.connections.table c.args.self.now.connections.table c.args.self.now.replicas.refused c.args.self.now.replicas.refused c.args.said.now.items c.args.said.now.items refl refl;
   answered = refl;
@@ -36,7 +36,7 @@ loop-alloc-init c = record {
 }
 
 pub loop-alloc-preserved : goal.loop-alloc-preserved
-loop-alloc-preserved c = record {
+loop-alloc-preserved g c = record {
   given = gives_on c.args.self.now.connections c.loop-alloc.self.connections c.assign.new.self.connections c.args.said.now.items c.loop-alloc.said.items c.assign.new.said.items c.loop-alloc.invariant.given c.assign.ensures.given;
   tells = tells_on _ _ _ _ _ _ c.args.said.now.items c.loop-alloc.said.items c.assign.new.said.items c.loop-alloc.invariant.counted c.assign.ensures.counted c.loop-alloc.invariant.tells c.assign.ensures.tells;
   answered = c.assign.ensures.answered ∙ c.loop-alloc.invariant.answered;

@@ -5,7 +5,7 @@ use Rattle.service.specs.Told.{TellsMore}
 use Rattle.service.proofs.service.Service.assign_all.Given as goal
 
 abbrev pub invariant-loop-alloc : goal.invariant-loop-alloc
-invariant-loop-alloc l = record {
+invariant-loop-alloc g l = record {
   given : Gives l.initial.self.connections l.initial.said.items l.self.connections l.said.items;
   tells : TellsMore l.initial.self l.initial.said.items l.self l.said.items;
   answered : l.self.answered ≡ l.initial.self.answered;
@@ -17,4 +17,4 @@ invariant-loop-alloc l = record {
 
 -- each that is asked leaves the queue
 abbrev pub decreases-loop-alloc : goal.decreases-loop-alloc
-decreases-loop-alloc l = length l.self.queue
+decreases-loop-alloc g l = length l.self.queue

@@ -3,7 +3,7 @@ use Rattle.service.specs.Service.{ServiceView}
 use Rattle.service.proofs.service.Service.is_any_down.Goals as goal
 
 pub returns : goal.returns
-returns c = λ down at below.
+returns g c = λ down at below.
     let count = c.count-at-end.ensures in
     let end = c.loop-at-test.false in
     let each = c.self.invariant.2.each in

@@ -10,5 +10,5 @@ one_free pool None is some = let clash : false ≡ true = some in absurd (cc cla
 one_free pool (Some proxy) is some = (proxy, is)
 
 pub returns-then-not-is_empty-clause-yes : goal.returns-then-not-is_empty-clause-yes
-returns-then-not-is_empty-clause-yes c ready =
+returns-then-not-is_empty-clause-yes g c ready =
     subst (λ (v : ServiceView). (proxy : ℕ) × IsFreeIn v.waiting proxy) c.self.view_is (one_free c.self.inside.pool c.free.result c.free.ensures.some (sym c.is_some.ensures ∙ ready))

@@ -7,7 +7,7 @@ use Rattle.service.specs.Steps.{NoneWaits}
 use Rattle.service.proofs.service.Service.is_waiting.Goals as goal
 
 pub returns : goal.returns
-returns c = record {
+returns g c = record {
   no = λ up.
       let queue = c.self.inside.queue in
       let none : length queue.items ≡ 0 = sym queue.ok.0 ∙ eqb-true queue.len 0 (sym c.is_empty.ensures ∙ c.if-not-is_empty.false) in

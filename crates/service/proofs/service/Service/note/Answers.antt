@@ -7,9 +7,10 @@ use Rattle.service.proofs.KeepLemmas.{connections_keep}
 use Rattle.service.proofs.service.Service.note.Goals as goal
 
 pub invariant_of-self : goal.invariant_of-self
-invariant_of-self c =
+invariant_of-self g c =
     let s = c.self.inside in
-    let v : ServiceView = record { connections = s.connections; asked = s.ensemble.asked; answered = s.ensemble.answered; order = s.ensemble.order; assignments = assigned s.assignments.items; waiting = s.pool; queue = s.queue.items; replicas = none_shown } in
+    let shown = g.E.Replicas.as_ensemble s.replicas in
+    let v : ServiceView = record { connections = s.connections; asked = shown.asked; answered = shown.answered; order = shown.order; assignments = assigned s.assignments.items; waiting = s.pool; queue = s.queue.items; replicas = none_shown } in
     let next = c.note.new.self in
     let ok = connections_keep v next c.self.invariant.0 (ap (λ (x : ConnectionsView). x.taken) c.note.ensures.others) (ap (λ (x : ConnectionsView). x.replied) c.note.ensures.others) in
     (ok, noted_moments v next c.args.moment c.self.invariant.1 (ap (λ (x : ConnectionsView). x.dialect) c.note.ensures.others) c.note.ensures.passed (moment_now (over v next) ok c.always.ensures.connections c.always.ensures.history (noted_handed v next c.args.moment c.self.invariant.1 c.note.ensures.passed)), c.self.invariant.2, remembers)

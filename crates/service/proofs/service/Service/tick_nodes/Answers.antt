@@ -4,7 +4,7 @@ use Rattle.service.proofs.NodeLemmas.{one_ticked, all_ticked}
 use Rattle.service.proofs.service.Service.tick_nodes.Goals as goal
 
 pub loop-at-preserved : goal.loop-at-preserved
-loop-at-preserved c =
+loop-at-preserved g c =
     let is = c.tick_node.ensures in
     let was = c.loop-at.invariant in
     record {
@@ -17,7 +17,7 @@ loop-at-preserved c =
     }
 
 pub returns-clause-nodes : goal.returns-clause-nodes
-returns-clause-nodes c =
+returns-clause-nodes g c =
     let count = c.count-at-end.ensures in
     let end = c.loop-at-test.false in
     let each = c.self.invariant.2.each in

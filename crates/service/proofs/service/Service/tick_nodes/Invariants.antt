@@ -5,7 +5,7 @@ use Rattle.service.proofs.NodeLemmas.{HaveTickedBelow}
 use Rattle.service.proofs.service.Service.tick_nodes.Given as goal
 
 abbrev pub invariant-loop-at : goal.invariant-loop-at
-invariant-loop-at l = record {
+invariant-loop-at g l = record {
   connections : l.self.connections ≡ l.initial.self.connections;
   size : size_of l.self.replicas.ensemble.nodes ≡ size_of l.initial.self.replicas.ensemble.nodes;
   asks : HasSameAsked l.initial.self l.self;

@@ -4,7 +4,7 @@ use Rattle.service.proofs.TickLemmas.{Waited, one_set, patience_sets, all_waited
 use Rattle.service.proofs.service.Service.tick_proxies.Goals as goal
 
 pub loop-at-preserved : goal.loop-at-preserved
-loop-at-preserved c =
+loop-at-preserved g c =
     let is = c.tick_proxy.ensures in
     let was = c.loop-at.invariant in
     record {
@@ -17,7 +17,7 @@ loop-at-preserved c =
     }
 
 pub returns-clause-waited : goal.returns-clause-waited
-returns-clause-waited c =
+returns-clause-waited g c =
     let count = c.count-at-end.ensures in
     let end = c.loop-at-test.false in
     let same : length c.args.self.now.waiting ≡ length c.self.inside.pool = ap (λ (v : ServiceView). length v.waiting) (sym c.self.view_is) in

@@ -1,16 +1,16 @@
-use Rattle.std.proofs.Common.{rules, ◌+◌, refl, subst, arith}
+use Rattle.std.proofs.Common.{◌+◌, refl, subst, arith}
 use Rattle.service.specs.Service.{ServiceView, none_shown, assigned}
-use Rattle.service.specs.Process.{IsServiceAlone, IsProcess}
+use Rattle.service.specs.Process.{IsServiceAlone}
 use Rattle.service.specs.Ticks.{EachHasPause}
 use Rattle.service.proofs.KeepLemmas.{seen}
-use Rattle.service.proofs.Ending.{own_after}
-use Rattle.service.proofs.service.Service.shows.Goals as goal
+use Rattle.service.proofs.service.Service.shows_alone.Goals as goal
 
 pub returns : goal.returns
-returns c =
+returns g c =
     let s = c.self.inside in
-    let alone : ServiceView = record { connections = s.connections; asked = s.ensemble.asked; answered = s.ensemble.answered; order = s.ensemble.order; assignments = assigned s.assignments.items; waiting = s.pool; queue = s.queue.items; replicas = none_shown } in
-    let v : ServiceView = record alone { replicas = record { ensemble = s.ensemble; refused = s.refused + s.ensemble.refused; pauses = s.nodes.pauses.items } } in
+    let shown = g.E.Replicas.as_ensemble s.replicas in
+    let alone : ServiceView = record { connections = s.connections; asked = shown.asked; answered = shown.answered; order = shown.order; assignments = assigned s.assignments.items; waiting = s.pool; queue = s.queue.items; replicas = none_shown } in
+    let v : ServiceView = record alone { replicas = record { ensemble = shown; refused = s.refused + shown.refused; pauses = s.nodes.pauses.items } } in
     let own : IsServiceAlone v = record {
       connections = c.always.ensures.connections;
       history = c.always.ensures.history;
@@ -27,7 +27,5 @@ returns c =
     let paused : EachHasPause v.replicas = omega (arith, each, members, same) in
     record {
       own = subst IsServiceAlone c.self.view_is own;
-      ensemble = search rules;
-      process = subst IsProcess c.self.view_is (own_after v own c.shows.ensures);
       pauses = subst (λ (x : ServiceView). EachHasPause x.replicas) c.self.view_is paused;
     }

@@ -9,7 +9,7 @@ use Rattle.service.specs.Service.{none_shown, assigned}
 use Rattle.service.proofs.MomentLemmas.{first_moments}
 use Rattle.service.proofs.KeepLemmas.{first_keeps}
 use Rattle.service.proofs.NodeLemmas.{first_pauses}
-use Rattle.service.proofs.service.Service.reopen.Goals as goal
+use Rattle.service.proofs.service.Service+Ensemble.reopen.Goals as goal
 
 pub invariant_of-result : goal.invariant_of-result
 invariant_of-result c =

@@ -7,7 +7,7 @@ use Rattle.connections.specs.Connections.{ConnectionsView}
 use Rattle.service.proofs.MomentLemmas.{first_moments}
 use Rattle.service.proofs.KeepLemmas.{first_keeps}
 use Rattle.service.proofs.NodeLemmas.{first_pauses, up_u}
-use Rattle.service.proofs.service.Service.open.Goals as goal
+use Rattle.service.proofs.service.Service+Ensemble.open.Goals as goal
 
 pub invariant_of-result : goal.invariant_of-result
 invariant_of-result c =
