@@ -74,14 +74,14 @@ fn said_of(alloc: Global, key: usize, number: u64, heard: Result<service::Said, 
 }
 
 impl Model for Answering {
-    ghost use Rattle.service.specs.contracts.service.Service as of_service;
+    ghost use Rattle.service.specs.Row.{service_row};
     ghost use Rattle.event_loop.specs.contracts.message.Said as of_said;
     ghost use Rattle.server.specs.contracts.answering.Lost as of_lost;
     ghost use Rattle.server.specs.Answering.{AnsweringView, answering_code};
 
     ghost Value = { AnsweringView };
 
-    ghost coded = { answering_code of_service.the_row.coded of_said.the_row.coded of_lost.the_row.coded };
+    ghost coded = { answering_code service_row.coded of_said.the_row.coded of_lost.the_row.coded };
 
     ghost view = { λ a. record { service = a.service; said = a.said.items; lost = a.lost.items } };
 }

@@ -16,7 +16,7 @@ use Rattle.ensemble.specs.declared.answer.Answer.{Answer}
 use Rattle.ensemble.specs.Nodes.{size_of}
 use Rattle.ensemble.specs.declared.noted.Noted.{Noted}
 use Rattle.ensemble.specs.declared.noted.Noted.TheVariants as noted
-use Rattle.ensemble.specs.Ensemble.{EnsembleView, answer_entry, order_entry, moment_entry}
+use Rattle.ensemble.specs.Ensemble.{EnsembleView, answer_entry, order_entry}
 use Rattle.ensemble.proofs.Lists.{place_of}
 use Rattle.service.specs.declared.assignment.Assignment.{Assignment}
 use Rattle.service.specs.declared.assignment.Outstanding.{Outstanding}
@@ -24,7 +24,10 @@ use Rattle.service.specs.declared.note.Waiting.{Waiting}
 use Rattle.service.specs.declared.asking.Asking.{Asking}
 use Rattle.service.specs.declared.asking.Asking.TheVariants.{Nothing, Asked, Failed}
 use Rattle.service.specs.Service.{ServiceView, ReplicasView, IsSameProcess, none_shown, asked_keys, before_ask, IsAnsweredEarlier, command_number_of, IsAssigned, IsService, WaitsAt, Waits, asked_as, assigned_as, assigned, AreLogged, AnswersTo, Gives, GivesNothing, GivesOne, given_entry, passed_entry}
-use Rattle.service.proofs.OrderLemmas.{Order, asked_push, none_asked, more_asks_nothing, before_same, before_last, asked_below, asked_count}
+use Rattle.service.proofs.OrderLemmas.{Order, asked_push, more_asks_nothing, before_same, before_last, asked_below, asked_count}
+use Rattle.service.proofs.Lists.{in_map}
+use Rattle.service.proofs.WorkLemmas.{work_asks_nothing}
+use Rattle.service.specs.Replicas.{IsWorkNoted}
 use Rattle.service.specs.Steps.{NoneWaits, KeepsWaits, AddsWait, EndsWait, KeepsTaken, IsAskedOf, AsksFor, Settles}
 use Rattle.service.specs.Owed.{IsFreeIn, EndsWaitAt}
 
@@ -111,26 +114,21 @@ pub connections_keep : (v : ServiceView) (now : ConnectionsView) → IsService v
 connections_keep v now ok taken replied = keeps v (record v { connections = now }) ok (λ e i. subst (λ (xs : List (CommandNumber × Command)). Contains xs e) (sym taken) i) replied refl (λ x i. i) refl [] refl (sym (append-nil v.order)) (λ i a w. w)
 
 -- the replicas worked
-pub worked_keeps : (v : ServiceView) (asked : List (Request × Bool)) (answered : List ((ℕ × ℕ) × replies.Reply)) (order : Order) (moment : ℕ) (answers : List Answer) → IsService v → asked ≡ v.asked → answered ≡ v.answered ++ map answer_entry answers → order ≡ (v.order ++ moment_entry moment ∷ []) ++ map order_entry answers
+pub worked_keeps : (v : ServiceView) (asked : List (Request × Bool)) (answered : List ((ℕ × ℕ) × replies.Reply)) (order : Order) (moment : ℕ) (answers : List Answer) → IsService v → asked ≡ v.asked → answered ≡ v.answered ++ map answer_entry answers → IsWorkNoted moment answers v.order order
     → IsService (record v { asked = asked; answered = answered; order = order })
-worked_keeps v asked answered order moment answers ok same is ordered =
+worked_keeps v asked answered order moment answers ok same is work =
     keeps v (record v { asked = asked; answered = answered; order = order }) ok (λ e i. i) refl same
-    (λ x i. subst (λ (xs : List ((ℕ × ℕ) × replies.Reply)). Contains xs x) (sym is) (Contains-append_left v.answered (map answer_entry answers) x i)) refl (moment_entry moment ∷ map order_entry answers) (none_asked answers) (ordered ∙ append_assoc v.order (moment_entry moment ∷ []) (map order_entry answers)) (λ i a w. w)
+    (λ x i. subst (λ (xs : List ((ℕ × ℕ) × replies.Reply)). Contains xs x) (sym is) (Contains-append_left v.answered (map answer_entry answers) x i)) refl work.more (work_asks_nothing moment work.more work.only) work.after (λ i a w. w)
 
 pub tended_keeps : (v : ServiceView) (asked : List (Request × Bool)) (answered : List ((ℕ × ℕ) × replies.Reply)) (order : Order) (waiting : List (Option Outstanding)) → IsService v → asked ≡ v.asked → answered ≡ v.answered → order ≡ v.order → KeepsWaits v.waiting waiting
     → IsService (record v { asked = asked; answered = answered; order = order; waiting = waiting })
 tended_keeps v asked answered order waiting ok same is ordered waits =
     keeps v (record v { asked = asked; answered = answered; order = order; waiting = waiting }) ok (λ e i. i) refl same (λ x i. subst (λ (xs : List ((ℕ × ℕ) × replies.Reply)). Contains xs x) (sym is) i) refl [] refl (ordered ∙ sym (append-nil v.order)) waits
 
-contains_map : {X : Type 0} (of : Answer → X) (answers : List Answer) (a : Answer) → Contains answers a → Contains (map of answers) (of a)
-contains_map of [] a i = let lt = i.1 in absurd (omega (arith, lt))
-contains_map of (x ∷ answers) a (zero, lt, e) = (zero, omega arith, ap of e)
-contains_map of (x ∷ answers) a (suc k, lt, e) = let c = contains_map of answers a (k, omega (arith, lt), e) in let less = c.1 in (suc c.0, omega (arith, less), c.2)
-
-pub are_logged : (answers : List Answer) (old new : List ((ℕ × ℕ) × replies.Reply)) (order order_now : Order) → new ≡ old ++ map answer_entry answers → order_now ≡ order ++ map order_entry answers → AreLogged answers new order_now
-are_logged answers old new order order_now is ordered a i = (
-  subst (λ (xs : List ((ℕ × ℕ) × replies.Reply)). Contains xs (answer_entry a)) (sym is) (Contains-append_right old (map answer_entry answers) (answer_entry a) (contains_map answer_entry answers a i)),
-  subst (λ (xs : Order). Contains xs (order_entry a)) (sym ordered) (Contains-append_right order (map order_entry answers) (order_entry a) (contains_map order_entry answers a i)),
+pub are_logged : (moment : ℕ) (answers : List Answer) (old new : List ((ℕ × ℕ) × replies.Reply)) (order order_now : Order) → new ≡ old ++ map answer_entry answers → IsWorkNoted moment answers order order_now → AreLogged answers new order_now
+are_logged moment answers old new order order_now is work a i = (
+  subst (λ (xs : List ((ℕ × ℕ) × replies.Reply)). Contains xs (answer_entry a)) (sym is) (Contains-append_right old (map answer_entry answers) (answer_entry a) (in_map answer_entry answers a i)),
+  subst (λ (xs : Order). Contains xs (order_entry a)) (sym work.after) (Contains-append_right order work.more (order_entry a) (work.each a i)),
 )
 
 -- ---- a command is asked

@@ -1,4 +1,5 @@
 pub mod WaitLemmas
+mod WorkLemmas
 pub mod KeepLemmas
 pub mod Crossing
 mod OrderLemmas

@@ -1,5 +1,6 @@
 -- Lists of which one comes behind the other.
-use Rattle.std.proofs.Common.{◌≡◌, ◌⊎◌, inl, inr, ⊎_elim, ℕ, zero, suc, ◌+◌, ◌<◌, ◌≤◌, List, [], ◌∷◌, ◌++◌, length, Some, slice_get, refl, sym, ap, ◌∙◌, arith}
+use Rattle.std.proofs.Common.{◌≡◌, ◌⊎◌, inl, inr, ⊎_elim, ℕ, zero, suc, ◌+◌, ◌<◌, ◌≤◌, List, [], ◌∷◌, ◌++◌, length, Some, slice_get, map, refl, sym, ap, ◌∙◌, arith}
+use Rattle.std.specs.Prelude.{Contains}
 use Rattle.std.proofs.lemmas.List.{append-nil}
 use Rattle.std.proofs.lemmas.List.Concat.{flat_map-append}
 use Rattle.connections.specs.Connections.{bytes_in, bytes_of_connection}
@@ -11,6 +12,20 @@ pub below_or_not : (a b : ℕ) → (a < b) ⊎ (b ≤ a)
 below_or_not a zero = inr (omega arith)
 below_or_not zero (suc b) = inl (omega arith)
 below_or_not (suc a) (suc b) = ⊎_elim (λ (less : a < b). inl (omega (arith, less))) (λ (more : b ≤ a). inr (omega (arith, more))) (below_or_not a b)
+
+-- ---- elements
+
+module _ {X : Type 0} where
+  pub first_in : (x : X) (xs : List X) → Contains (x ∷ xs) x
+  first_in x xs = (zero, omega arith, refl)
+
+  pub later_in : (x : X) (xs : List X) (y : X) → Contains xs y → Contains (x ∷ xs) y
+  later_in x xs y (k, lt, e) = (suc k, omega (arith, lt), e)
+
+pub in_map : {X Y : Type 0} (of : X → Y) (xs : List X) (x : X) → Contains xs x → Contains (map of xs) (of x)
+in_map of [] x i = let lt = i.1 in absurd (omega (arith, lt))
+in_map of (y ∷ xs) x (zero, lt, e) = (zero, omega arith, ap of e)
+in_map of (y ∷ xs) x (suc k, lt, e) = let c = in_map of xs x (k, omega (arith, lt), e) in let less = c.1 in (suc c.0, omega (arith, less), c.2)
 
 -- ---- indices
 

@@ -15,23 +15,24 @@ use Rattle.connections.specs.History.{Passed, HistoryView, IsHistory, heard_as, 
 use Rattle.connections.specs.Connections.{ConnectionsView, bytes_in, bytes_of_connection, WasReplied, IsAnswered, IsConnections}
 use Rattle.connections.proofs.KeepLemmas.{none_keep}
 use Rattle.connections.proofs.HistoryLemmas.{heard_more, nothing_given, moments_both}
-use Rattle.connections.proofs.TakeLemmas.{one_of}
 use Rattle.connections.proofs.TextLemmas.{answered_longer, answered_implies, bytes_more}
 use Rattle.ensemble.specs.declared.answer.Answer.{Answer}
 use Rattle.sessions.specs.declared.request.Request.{Request}
 use Rattle.ensemble.specs.declared.noted.Noted.TheVariants as noted
 use Rattle.ensemble.specs.Moments.{moments_in, latest_of, IsSince}
-use Rattle.ensemble.specs.Ensemble.{EnsembleView, answer_entry, order_entry, moment_entry}
+use Rattle.ensemble.specs.Ensemble.{EnsembleView, answer_entry}
 use Rattle.ensemble.proofs.Past.{longer_split_late}
-use Rattle.ensemble.proofs.Moments.{answers_no_moments, in_these, last_since, last_pushed, since_more}
+use Rattle.ensemble.proofs.Moments.{in_these, last_since, last_pushed, since_more}
 use Rattle.ensemble.proofs.Moments as of_order
 use Rattle.service.specs.declared.assignment.Assignment.{Assignment}
 use Rattle.service.specs.declared.assignment.Outstanding.{Outstanding}
 use Rattle.service.specs.declared.asking.Asking.{Asking}
 use Rattle.service.specs.declared.asking.Asking.TheVariants.{Nothing, Asked, Failed}
 use Rattle.service.specs.Service.{ServiceView, IsService, HasMoments, WasMoment, WasAnsweredBy, IsPassedNow, command_number_of, passed_entry, Hears, Gives, GivesNothing, GivesOne}
+use Rattle.service.specs.Replicas.{IsWorkNoted}
 use Rattle.service.specs.Steps.{AsksFor, Settles}
 use Rattle.service.proofs.OrderLemmas.{Order}
+use Rattle.service.proofs.WorkLemmas.{work_moment}
 
 abbrev pub Replies : Type 0
 Replies = List ((ℕ × ℕ) × replies.Reply)
@@ -179,15 +180,12 @@ same_moments v now were dialect passed order assignments answered =
     moments_stay v now were dialect passed [] (order ∙ sym (append-nil v.order)) (λ moment c. absurd (let lt = c.1 in omega (arith, lt))) [] (assignments ∙ sym (append-nil v.assignments)) (λ x i. subst (λ (xs : Replies). Contains xs x) (sym answered) i)
 
 -- the replicas were handed the moment of now, and worked
-pub worked_moments : (v : ServiceView) (asked : List (Request × Bool)) (answered : Replies) (order : Order) (moment : ℕ) (answers : List Answer) → HasMoments v → answered ≡ v.answered ++ map answer_entry answers → order ≡ (v.order ++ moment_entry moment ∷ []) ++ map order_entry answers → IsPassedNow v.connections.passed moment
+pub worked_moments : (v : ServiceView) (asked : List (Request × Bool)) (answered : Replies) (order : Order) (moment : ℕ) (answers : List Answer) → HasMoments v → answered ≡ v.answered ++ map answer_entry answers → IsWorkNoted moment answers v.order order → IsPassedNow v.connections.passed moment
     → HasMoments (record v { asked = asked; answered = answered; order = order })
-worked_moments v asked answered order moment answers were is ordered now =
-    moments_stay v (record v { asked = asked; answered = answered; order = order }) were refl refl (moment_entry moment ∷ map order_entry answers) (ordered ∙ append_assoc v.order (moment_entry moment ∷ []) (map order_entry answers))
-    (λ m c. subst (IsPassedNow v.connections.passed) (one m (subst (λ (moments : List ℕ). Contains (moment ∷ moments) m) (answers_no_moments answers) c)) now)
+worked_moments v asked answered order moment answers were is work now =
+    moments_stay v (record v { asked = asked; answered = answered; order = order }) were refl refl work.more work.after
+    (λ m c. subst (IsPassedNow v.connections.passed) (work_moment moment work.more work.only m c) now)
     [] (sym (append-nil v.assignments)) (λ x i. subst (λ (xs : Replies). Contains xs x) (sym is) (Contains-append_left v.answered (map answer_entry answers) x i))
-  where
-    one : (m : ℕ) → Contains (moment ∷ []) m → moment ≡ m
-    one m c = one_of moment m c
 
 -- nothing came yet
 pub first_moments : (v : ServiceView) → v.connections.passed ≡ [] → v.order ≡ [] → HasMoments v

@@ -14,6 +14,7 @@ use Rattle.ensemble.specs.Calls.{IsReopened}
 use Rattle.service.specs.declared.pause.Pause.{Pause}
 use Rattle.service.specs.Pause.{first_pause}
 use Rattle.service.specs.Service.{ReplicasView}
+use Rattle.service.specs.Replicas.{OthersAreAsTheyWere}
 use Rattle.service.specs.Told.{UnlessRefused}
 use Rattle.service.specs.Ticks.{replica_at, is_up_in, HavePauses, pause_after, is_opened, NodeTicksIn, NodeTicks, HavePaused, OthersStay, IsOpenedIf, HasTicked, NodeHasTicked, NodesHaveTicked}
 use Rattle.service.proofs.Lists.{below_or_not}
@@ -65,7 +66,7 @@ module _ (n now : NodesView) where
       ∙ ap is_slot_up (at_other (AtVerifierIn (VerifierOpens n.u id) id n.verifiers m.0 m.1) n.verifiers m.0 id k (λ same. differs (ap (λ (x : ℕ). Verifier x) same)) (λ at. at.0) (λ v at. (at.0, at.2)) (slice_get n.verifiers id) m.3)
 
   -- each other one is up or down as before
-  reopened_others : (opened r : Replica) → r ≢ opened → IsReopened opened n now → is_up_at now r ≡ is_up_at n r
+  pub reopened_others : (opened r : Replica) → r ≢ opened → IsReopened opened n now → is_up_at now r ≡ is_up_at n r
   reopened_others (Executor id) r differs is = ⊎_elim
       (λ (beyond : 2 * n.u < id). ap (λ (x : NodesView). is_up_at x r) (is.beyond beyond))
       (λ (here : id ≤ 2 * n.u). host_opened id r differs here is)
@@ -78,10 +79,10 @@ module _ (n now : NodesView) where
 same_u : (n now : NodesView) → size_of now ≡ size_of n → now.u ≡ n.u
 same_u n now size = ap (λ (z : ℕ × ℕ × ℕ × ℕ). z.0) size
 
-pub others_stay : (at : ℕ) (n now : NodesView) → size_of now ≡ size_of n → IsReopened (replica_at (2 * n.u + 1) at) n now → OthersStay at n now
+pub others_stay : (at : ℕ) (n now : NodesView) → size_of now ≡ size_of n → OthersAreAsTheyWere (replica_at (2 * n.u + 1) at) n now → OthersStay at n now
 others_stay at n now size is other differs =
     ap (λ (u : ℕ). is_up_at now (replica_at (2 * u + 1) other)) (same_u n now size)
-    ∙ reopened_others n now (replica_at (2 * n.u + 1) at) (replica_at (2 * n.u + 1) other) (others_differ (2 * n.u + 1) at other differs) is
+    ∙ is (replica_at (2 * n.u + 1) other) (others_differ (2 * n.u + 1) at other differs)
 
 -- the node of this index was opened, and is up
 pub opened_here : (at : ℕ) (replica : Replica) (n now : NodesView) (is_back : Bool) → replica ≡ replica_at (2 * n.u + 1) at → size_of now ≡ size_of n → is_back ≡ is_up_at now replica → is_back ≡ true → is_up_in now at ≡ true

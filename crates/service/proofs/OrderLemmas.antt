@@ -1,10 +1,8 @@
 -- The order in which requests were asked and answered.
 use Rattle.std.proofs.Common.{◌≡◌, ℕ, zero, suc, ◌<◌, List, [], ◌∷◌, ◌++◌, map, length, Some, refl, ap, ◌∙◌, arith, slice_get}
 use Rattle.std.proofs.lemmas.List.{length-map}
-use Rattle.ensemble.specs.declared.answer.Answer.{Answer}
 use Rattle.ensemble.specs.declared.noted.Noted.{Noted}
 use Rattle.ensemble.specs.declared.noted.Noted.TheVariants as noted
-use Rattle.ensemble.specs.Ensemble.{order_entry}
 use Rattle.service.specs.declared.assignment.Assignment.{Assignment}
 use Rattle.service.specs.Service.{ServiceView, asked_keys, before_ask, assigned_as, IsService}
 
@@ -16,10 +14,6 @@ asked_push [] key = refl
 asked_push ((k, noted.Asked) ∷ order) key = ap (λ (keys : List (ℕ × ℕ)). k ∷ keys) (asked_push order key)
 asked_push ((k, noted.Answered) ∷ order) key = asked_push order key
 asked_push ((k, noted.Moment) ∷ order) key = asked_push order key
-
-pub none_asked : (answers : List Answer) → asked_keys (map order_entry answers) ≡ []
-none_asked [] = refl
-none_asked (a ∷ answers) = none_asked answers
 
 -- what asks nothing adds nothing
 pub more_asks_nothing : (order more : Order) → asked_keys more ≡ [] → asked_keys (order ++ more) ≡ asked_keys order

@@ -7,3 +7,4 @@ pub mod Ticks
 pub mod Process
 pub mod Record
 pub mod Replicas
+pub mod Row

@@ -13,6 +13,7 @@
 //! It is built on `connections` (what each connection asks and is given) and `ensemble` (the replicas, and the
 //! proxies that ask them), and on `serving` for the patience of a proxy. The layer above uses `Service`, which the
 //! event loop drives: connections come, are heard and leave; `work` asks what waits, and gives what was answered.
+//! It can serve over any `Replicas`, of which an `Ensemble` is one.
 #![tactic(auto)]
 
 mod asking;
