@@ -27,7 +27,7 @@ use Rattle.service.specs.Service.{ServiceView, ReplicasView, IsSameProcess, none
 use Rattle.service.proofs.OrderLemmas.{Order, asked_push, more_asks_nothing, before_same, before_last, asked_below, asked_count}
 use Rattle.service.proofs.Lists.{in_map}
 use Rattle.service.proofs.WorkLemmas.{work_asks_nothing}
-use Rattle.service.specs.Replicas.{IsWorkNoted}
+use Rattle.service.specs.ReplicaSet.{IsWorkNoted}
 use Rattle.service.specs.Steps.{NoneWaits, KeepsWaits, AddsWait, EndsWait, KeepsTaken, IsAskedOf, AsksFor, Settles}
 use Rattle.service.specs.Owed.{IsFreeIn, EndsWaitAt}
 

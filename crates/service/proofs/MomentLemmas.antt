@@ -29,7 +29,7 @@ use Rattle.service.specs.declared.assignment.Outstanding.{Outstanding}
 use Rattle.service.specs.declared.asking.Asking.{Asking}
 use Rattle.service.specs.declared.asking.Asking.TheVariants.{Nothing, Asked, Failed}
 use Rattle.service.specs.Service.{ServiceView, IsService, HasMoments, WasMoment, WasAnsweredBy, IsPassedNow, command_number_of, passed_entry, Hears, Gives, GivesNothing, GivesOne}
-use Rattle.service.specs.Replicas.{IsWorkNoted}
+use Rattle.service.specs.ReplicaSet.{IsWorkNoted}
 use Rattle.service.specs.Steps.{AsksFor, Settles}
 use Rattle.service.proofs.OrderLemmas.{Order}
 use Rattle.service.proofs.WorkLemmas.{work_moment}

@@ -14,7 +14,7 @@ use Rattle.ensemble.specs.Calls.{IsReopened}
 use Rattle.service.specs.declared.pause.Pause.{Pause}
 use Rattle.service.specs.Pause.{first_pause}
 use Rattle.service.specs.Service.{ReplicasView}
-use Rattle.service.specs.Replicas.{OthersAreAsTheyWere}
+use Rattle.service.specs.ReplicaSet.{OthersAreAsTheyWere}
 use Rattle.service.specs.Told.{UnlessRefused}
 use Rattle.service.specs.Ticks.{replica_at, is_up_in, HavePauses, pause_after, is_opened, NodeTicksIn, NodeTicks, HavePaused, OthersStay, IsOpenedIf, HasTicked, NodeHasTicked, NodesHaveTicked}
 use Rattle.service.proofs.Lists.{below_or_not}

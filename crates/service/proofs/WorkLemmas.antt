@@ -9,7 +9,7 @@ use Rattle.ensemble.specs.Nodes.{NodesView}
 use Rattle.ensemble.specs.Calls.{IsReopened}
 use Rattle.ensemble.specs.Moments.{moments_in}
 use Rattle.ensemble.specs.Ensemble.{order_entry, moment_entry}
-use Rattle.service.specs.Replicas.{OthersAreAsTheyWere, IsNotedInWork, IsWorkNoted}
+use Rattle.service.specs.ReplicaSet.{OthersAreAsTheyWere, IsNotedInWork, IsWorkNoted}
 use Rattle.service.specs.Service.{asked_keys}
 use Rattle.service.proofs.Lists.{first_in, later_in, in_map}
 use Rattle.service.proofs.NodeLemmas.{reopened_others}

@@ -6,5 +6,5 @@ pub mod Told
 pub mod Ticks
 pub mod Process
 pub mod Record
-pub mod Replicas
+pub mod ReplicaSet
 pub mod Row

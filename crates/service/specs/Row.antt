@@ -1,7 +1,7 @@
 -- A service over an ensemble, as proofs name its type.
 use denote.RattleType.{RattleType}
 use Rattle.ensemble.specs.contracts.ensemble.Ensemble as of_ensemble
-use Rattle.service.specs.contracts.replicas.EnsembleReplicas.TheImpl as of_replicas
+use Rattle.service.specs.contracts.replica_set.EnsembleReplicaSet.TheImpl as of_replicas
 use Rattle.service.specs.contracts.service.Service as of_service
 
 abbrev pub service_row : RattleType

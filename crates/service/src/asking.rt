@@ -8,7 +8,7 @@ ghost use Rattle.service.specs.Told.{IsToldIfFailed};
 
 use crate::assignment::Assignment;
 use crate::note::Note;
-use crate::replicas::Replicas;
+use crate::replica_set::ReplicaSet;
 use connections::{ConnectionId, Connections, Ready, Said};
 use figures::Asked;
 use std::alloc::Global;
@@ -39,7 +39,7 @@ fn failed(alloc: Global, connections: &mut Connections, at: ConnectionId) -> Sai
 
 /// The command of the connection, if it has one that may be asked, is asked of the proxy, which is free. It is noted
 /// for its count.
-pub fn ask<E: Replicas>(
+pub fn ask<E: ReplicaSet>(
     alloc: Global,
     connections: &mut Connections,
     replicas: &mut E,

@@ -2,7 +2,7 @@
 
 use crate::limit::Limit;
 use crate::note::Note;
-use crate::replicas::Replicas;
+use crate::replica_set::ReplicaSet;
 use crate::showing::note_node;
 use connections::Said;
 use ensemble::{Replica, Times};
@@ -86,14 +86,14 @@ impl Counting {
     }
 
     /// Counts the bytes of the items, if an executor is up. Else what was counted last stays.
-    pub fn look<E: Replicas>(&mut self, replicas: &E) {
+    pub fn look<E: ReplicaSet>(&mut self, replicas: &E) {
         if let Some(bytes) = replicas.item_bytes() {
             self.conditions.figures.memory.item_bytes = bytes;
         }
     }
 
     /// Counts the bytes of the items for the limit, if an executor is up.
-    fn look_for_limit<E: Replicas>(&mut self, replicas: &E) {
+    fn look_for_limit<E: ReplicaSet>(&mut self, replicas: &E) {
         if let Some(bytes) = replicas.item_bytes() {
             self.limit
                 .found(bytes, self.conditions.asked_bytes, self.micros);
@@ -101,7 +101,7 @@ impl Counting {
     }
 
     /// Decides whether more may be stored, if there is a limit.
-    pub fn decide<E: Replicas>(&mut self, replicas: &E) {
+    pub fn decide<E: ReplicaSet>(&mut self, replicas: &E) {
         let asked = self.conditions.asked_bytes;
         if self.limit.is_due(asked, self.micros) {
             self.look_for_limit(replicas);

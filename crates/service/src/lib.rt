@@ -13,7 +13,7 @@
 //! It is built on `connections` (what each connection asks and is given) and `ensemble` (the replicas, and the
 //! proxies that ask them), and on `serving` for the patience of a proxy. The layer above uses `Service`, which the
 //! event loop drives: connections come, are heard and leave; `work` asks what waits, and gives what was answered.
-//! It can serve over any `Replicas`, of which an `Ensemble` is one.
+//! It can serve over any `ReplicaSet`, of which an `Ensemble` is one.
 #![tactic(auto)]
 
 mod asking;
@@ -28,7 +28,7 @@ mod pause;
 mod pool;
 mod process_laws;
 mod reopening;
-mod replicas;
+mod replica_set;
 mod save_fault;
 mod service;
 mod service_record;
@@ -48,7 +48,7 @@ pub use process_laws::{
     services_follow_each_other,
 };
 pub use proto::Fault;
-pub use replicas::Replicas;
+pub use replica_set::ReplicaSet;
 pub use save_fault::SaveFault;
 pub use service::Service;
 pub use service_record::ServiceRecord;

@@ -9,7 +9,7 @@ use crate::incidents::Incidents;
 use crate::nodes::Nodes;
 use crate::note::Waiting;
 use crate::pool::Pool;
-use crate::replicas::Replicas;
+use crate::replica_set::ReplicaSet;
 use connections::{ConnectionId, Connections, Dialect, Said};
 use ensemble::{Config, Ensemble};
 use figures::Figures;
@@ -21,7 +21,7 @@ use std::marker::Model;
 
 /// Connections over client proxies of these replicas: of one ensemble, if no other type is named. It cannot be dropped:
 /// `end` ends it.
-pub struct Service<E: Replicas = Ensemble> {
+pub struct Service<E: ReplicaSet = Ensemble> {
     pub(crate) replicas: E,
     pub(crate) connections: Connections,
     /// Those whose command waits for a proxy, in order. Some may have left.
@@ -37,7 +37,7 @@ pub struct Service<E: Replicas = Ensemble> {
     pub(crate) assignments: Log<Assignment, u16>,
 }
 
-impl<E: Replicas> Model for Service<E> {
+impl<E: ReplicaSet> Model for Service<E> {
     ghost use Rattle.std.specs.Prelude.{◌<◌, ◌+◌};
     ghost use Rattle.connections.specs.contracts.connections.Connections as of_connections;
     ghost use Rattle.sessions.specs.contracts.request.Request as of_request;
@@ -115,7 +115,7 @@ impl Service<Ensemble> {
     }
 }
 
-impl<E: Replicas> Service<E> {
+impl<E: ReplicaSet> Service<E> {
     ghost use Rattle.std.specs.Prelude.{◌≡◌, ◌≢◌, ◌<◌, ◌≤◌, ◌+◌, ◌-◌, ◌^◌, ◌++◌, ◌∷◌, ◌⊎◌, ℕ, Bool, min, true, false, None, Some, Err, is_some, IfOk, IfErr, OnOk, OnErr};
     ghost use Rattle.grammar.specs.Reads.{with_mark};
     ghost use Rattle.connections.specs.Connection.{new_connection};

@@ -2,7 +2,7 @@
 
 ghost use Rattle.std.specs.Prelude.{◌≡◌};
 
-use crate::replicas::Replicas;
+use crate::replica_set::ReplicaSet;
 use crate::service::Service;
 use ensemble::Replica;
 use figures::{Figures, NodeFigures, one_more};
@@ -25,7 +25,7 @@ pub fn note_node(figures: &mut Figures, replica: Replica, is_up: bool) {
     }
 }
 
-impl<E: Replicas> Service<E> {
+impl<E: ReplicaSet> Service<E> {
     /// Shows the replica of this index.
     fn show_node(&self, figures: &mut Figures, at: u8) {
         let replica = self.nodes.replica(at);

@@ -1,10 +1,10 @@
 //! A node that stops.
 
-use crate::replicas::Replicas;
+use crate::replica_set::ReplicaSet;
 use crate::service::Service;
 use ensemble::Replica;
 
-impl<E: Replicas> Service<E> {
+impl<E: ReplicaSet> Service<E> {
     ghost use Rattle.std.specs.Prelude.{◌≡◌, false};
     ghost use Rattle.ensemble.specs.Nodes.{size_of};
     ghost use Rattle.ensemble.specs.Shown.{is_up_at};

@@ -7,14 +7,14 @@ ghost use Rattle.service.specs.Steps.{KeepsWaits};
 ghost use Rattle.service.specs.Owed.{KeepsOwed};
 
 use crate::pool::Pool;
-use crate::replicas::Replicas;
+use crate::replica_set::ReplicaSet;
 use crate::service::Service;
 use crate::showing::note_node;
 use serving::{Seen, Urge};
 use std::alloc::Global;
 
 /// The proxy in this slot asks again.
-fn ask_again<E: Replicas>(alloc: Global, pool: &mut Pool, replicas: &mut E, at: usize, seen: Seen)
+fn ask_again<E: ReplicaSet>(alloc: Global, pool: &mut Pool, replicas: &mut E, at: usize, seen: Seen)
     ensures after { SetsPatience (sent_again seen) at pool.old pool.new }
     ensures counted { (E.as_ensemble replicas.old).refused ≤ (E.as_ensemble replicas.new).refused }
     ensures waits { KeepsWaits pool.old pool.new }
@@ -31,7 +31,7 @@ fn ask_again<E: Replicas>(alloc: Global, pool: &mut Pool, replicas: &mut E, at: 
 }
 
 /// What is due of the proxy in this slot: whether the leader is suspected.
-fn tick_at<E: Replicas>(
+fn tick_at<E: ReplicaSet>(
     alloc: Global,
     pool: &mut Pool,
     replicas: &mut E,
@@ -63,7 +63,7 @@ fn tick_at<E: Replicas>(
     }
 }
 
-impl<E: Replicas> Service<E> {
+impl<E: ReplicaSet> Service<E> {
     ghost use Rattle.std.specs.Prelude.{◌≡◌, ◌<◌, ◌≤◌, Bool, true, false, slice_get};
     ghost use Rattle.ensemble.specs.Nodes.{size_of};
     ghost use Rattle.service.specs.Ticks.{waited_on, is_up_in, SetsPatience, HaveWaited, NodeTicks, IsOpenedIf, OthersStay, HavePaused, NodesHaveTicked, HasSameAsked, AreAllUpIn};

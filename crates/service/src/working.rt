@@ -14,7 +14,7 @@ use crate::assignment::{Assignment, Outstanding};
 use crate::hearing::enqueue;
 use crate::note::{Note, Waiting};
 use crate::pool::Pool;
-use crate::replicas::Replicas;
+use crate::replica_set::ReplicaSet;
 use crate::service::Service;
 use connections::{Connections, Said};
 use ensemble::Answer;
@@ -59,7 +59,7 @@ fn has_room_for_one(said: &mut Vec<Said>, queue: &mut VecDeque<Waiting>) -> bool
 
 /// The number of the first proxy that waits for nothing and has nothing outstanding. One that had asked when the process
 /// before this one ended has something outstanding, and nobody waits for it.
-fn askable_proxy<E: Replicas>(pool: &Pool, replicas: &E) -> Option<u16>
+fn askable_proxy<E: ReplicaSet>(pool: &Pool, replicas: &E) -> Option<u16>
     ensures pool { IfSome result (λ proxy. IsFreeIn pool.now proxy) }
     ensures free { IfSome result (λ proxy. E.may_ask replicas.now proxy) }
 {
@@ -75,7 +75,7 @@ fn askable_proxy<E: Replicas>(pool: &Pool, replicas: &E) -> Option<u16>
 
 /// The number of a proxy that waits for nothing and has nothing outstanding, if there is one. If all that wait for nothing
 /// have something outstanding nothing can be asked, and that is counted.
-fn free_proxy<E: Replicas>(pool: &Pool, replicas: &E, refused: &mut u64) -> Option<u16>
+fn free_proxy<E: ReplicaSet>(pool: &Pool, replicas: &E, refused: &mut u64) -> Option<u16>
     ensures pool { IfSome result (λ proxy. IsFreeIn pool.now proxy) }
     ensures free { IfSome result (λ proxy. E.may_ask replicas.now proxy) }
     ensures none { IfNone result (UnlessRefused refused.old refused.new (AllWait pool.now)) }
@@ -166,7 +166,7 @@ fn settle(
     }
 }
 
-impl<E: Replicas> Service<E> {
+impl<E: ReplicaSet> Service<E> {
     ghost use Rattle.std.specs.Prelude.{◌≡◌, ◌<◌, ◌≤◌, ◌++◌, ◌∷◌, [], true, false, length, map, Contains};
     ghost use Rattle.connections.specs.History.{moment_as};
     ghost use Rattle.ensemble.specs.Nodes.{size_of};

@@ -14,7 +14,7 @@ use Rattle.service.proofs.service.Service.answer.Goals as goal
 pub invariant_of-self : goal.invariant_of-self
 invariant_of-self g c =
     let s = c.self.inside in
-    let shown = g.E.Replicas.as_ensemble s.replicas in
+    let shown = g.E.ReplicaSet.as_ensemble s.replicas in
     let v : ServiceView = record { connections = s.connections; asked = shown.asked; answered = shown.answered; order = shown.order; assignments = assigned s.assignments.items; waiting = s.pool; queue = s.queue.items; replicas = none_shown } in
     let none : c.answered.result ≡ None = search rules in
     (tended_keeps v shown.asked shown.answered shown.order c.answered.new.self c.self.invariant.0 refl refl refl (ends_keeps s.pool c.answered.new.self c.args.answer.proxy c.args.answer.number c.answered.result c.answered.ensures.ends), same_moments v (record v { waiting = c.answered.new.self }) c.self.invariant.1 refl refl refl refl refl, c.self.invariant.2, subst (λ (p : List (Option Outstanding)). Remembers s.queue.items p s.connections.table) (sym (gives_nothing _ c.args.answer.proxy c.args.answer.number s.pool c.answered.new.self c.answered.result none c.answered.ensures.at)) c.self.invariant.3)
@@ -22,7 +22,7 @@ invariant_of-self g c =
 pub invariant_of-self-2 : goal.invariant_of-self-2
 invariant_of-self-2 g c =
     let s = c.self.inside in
-    let shown = g.E.Replicas.as_ensemble s.replicas in
+    let shown = g.E.ReplicaSet.as_ensemble s.replicas in
     let v : ServiceView = record { connections = s.connections; asked = shown.asked; answered = shown.answered; order = shown.order; assignments = assigned s.assignments.items; waiting = s.pool; queue = s.queue.items; replicas = none_shown } in
     let logged : Contains v.answered (answer_entry c.args.answer) = subst (λ (x : ServiceView). Contains x.answered (answer_entry c.args.answer)) (sym c.self.view_is) c.requires.logged in
     let ordered : Contains v.order (order_entry c.args.answer) = subst (λ (x : ServiceView). Contains x.order (order_entry c.args.answer)) (sym c.self.view_is) c.requires.ordered in
@@ -39,7 +39,7 @@ returns-clause-given g c =
 pub returns-clause-tells : goal.returns-clause-tells
 returns-clause-tells g c =
     let s = c.self.inside in
-    let shown = g.E.Replicas.as_ensemble s.replicas in
+    let shown = g.E.ReplicaSet.as_ensemble s.replicas in
     let next = c.answer_to.new.connections.table in
     subst (λ (x : ServiceView). TellsIn x.connections.table x.replicas.refused c.args.said.now.items next (c.answer_to.new.refused + shown.refused) c.answer_to.new.said.items) c.self.view_is
     (tells_more s.connections.table next s.refused c.answer_to.new.refused shown.refused c.args.said.now.items c.answer_to.new.said.items c.answer_to.ensures.tells)

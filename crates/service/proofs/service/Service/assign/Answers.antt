@@ -17,7 +17,7 @@ use Rattle.service.proofs.service.Service.assign.Goals as goal
 pub invariant_of-self-in_default-pop_front : goal.invariant_of-self-in_default-pop_front
 invariant_of-self-in_default-pop_front g c =
     let s = c.self.inside in
-    let shown = g.E.Replicas.as_ensemble s.replicas in
+    let shown = g.E.ReplicaSet.as_ensemble s.replicas in
     let v : ServiceView = record { connections = s.connections; asked = shown.asked; answered = shown.answered; order = shown.order; assignments = assigned s.assignments.items; waiting = s.pool; queue = s.queue.items; replicas = none_shown } in
     let none : c.pop_front.result ≡ None = search rules in
     let same : s.queue.items ≡ c.pop_front.new.self.items = c.pop_front.ensures.items ∙ ap (λ (w : Option Waiting). option_to_list w ++ c.pop_front.new.self.items) none in
@@ -26,10 +26,10 @@ invariant_of-self-in_default-pop_front g c =
 pub invariant_of-self-2 : goal.invariant_of-self-2
 invariant_of-self-2 g c =
     let s = c.self.inside in
-    let shown = g.E.Replicas.as_ensemble s.replicas in
+    let shown = g.E.ReplicaSet.as_ensemble s.replicas in
     let v : ServiceView = record { connections = s.connections; asked = shown.asked; answered = shown.answered; order = shown.order; assignments = assigned s.assignments.items; waiting = s.pool; queue = s.queue.items; replicas = none_shown } in
     let next = c.ask-asking.new.connections in
-    let f = g.E.Replicas.as_ensemble c.ask-asking.new.replicas in
+    let f = g.E.ReplicaSet.as_ensemble c.ask-asking.new.replicas in
     let w : Waiting = c.in-Some-pop_front.waiting in
     let queue = c.pop_front.new.self.items in
     let now : ServiceView = record { connections = next; asked = f.asked; answered = f.answered; order = f.order; assignments = assigned c.settle.new.assignments.items; waiting = c.settle.new.pool; queue = queue; replicas = none_shown } in
@@ -41,9 +41,9 @@ invariant_of-self-2 g c =
 pub returns-clause-tells : goal.returns-clause-tells
 returns-clause-tells g c =
     let s = c.self.inside in
-    let shown = g.E.Replicas.as_ensemble s.replicas in
+    let shown = g.E.ReplicaSet.as_ensemble s.replicas in
     let next = c.ask-asking.new.connections in
-    let f = g.E.Replicas.as_ensemble c.ask-asking.new.replicas in
+    let f = g.E.ReplicaSet.as_ensemble c.ask-asking.new.replicas in
     let w : Waiting = c.in-Some-pop_front.waiting in
     let kept : c.reserve.new.self.items ≡ c.args.said.now.items = search rules in
     subst (λ (x : ServiceView). TellsIn x.connections.table x.replicas.refused c.args.said.now.items next.table (c.free_proxy.new.refused + f.refused) c.settle.new.said.items) c.self.view_is
@@ -53,8 +53,8 @@ returns-clause-tells g c =
 pub returns-clause-process : goal.returns-clause-process
 returns-clause-process g c =
     let s = c.self.inside in
-    let shown = g.E.Replicas.as_ensemble s.replicas in
-    let same = asks_same c.in-Some-pop_front.waiting.at c.in-Some.proxy s.connections c.ask-asking.new.connections shown (g.E.Replicas.as_ensemble c.ask-asking.new.replicas) c.ask-asking.result c.ask-asking.ensures.asks in
+    let shown = g.E.ReplicaSet.as_ensemble s.replicas in
+    let same = asks_same c.in-Some-pop_front.waiting.at c.in-Some.proxy s.connections c.ask-asking.new.connections shown (g.E.ReplicaSet.as_ensemble c.ask-asking.new.replicas) c.ask-asking.result c.ask-asking.ensures.asks in
     record {
       dialect = same.0 ∙ ap (λ (x : ServiceView). x.connections.dialect) c.self.view_is;
       first = same.1 ∙ ap (λ (x : ServiceView). x.connections.first) c.self.view_is;
@@ -102,9 +102,9 @@ returns-in_default-pop_front-clause-given g c =
 pub returns-clause-given : goal.returns-clause-given
 returns-clause-given g c =
     let s = c.self.inside in
-    let shown = g.E.Replicas.as_ensemble s.replicas in
+    let shown = g.E.ReplicaSet.as_ensemble s.replicas in
     let next = c.ask-asking.new.connections in
-    let f = g.E.Replicas.as_ensemble c.ask-asking.new.replicas in
+    let f = g.E.ReplicaSet.as_ensemble c.ask-asking.new.replicas in
     let kept : c.reserve.new.self.items ≡ c.args.said.now.items = search rules in
     subst (λ (x : ServiceView). Gives x.connections c.args.said.now.items next c.settle.new.said.items) c.self.view_is
     (subst (λ (said : List Said). Gives s.connections said next c.settle.new.said.items) kept

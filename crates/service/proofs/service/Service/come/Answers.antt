@@ -13,7 +13,7 @@ use Rattle.service.proofs.service.Service.come.Goals as goal
 pub invariant_of-self : goal.invariant_of-self
 invariant_of-self g c =
     let s = c.self.inside in
-    let shown = g.E.Replicas.as_ensemble s.replicas in
+    let shown = g.E.ReplicaSet.as_ensemble s.replicas in
     let v : ServiceView = record { connections = s.connections; asked = shown.asked; answered = shown.answered; order = shown.order; assignments = assigned s.assignments.items; waiting = s.pool; queue = s.queue.items; replicas = none_shown } in
     (connections_keep v c.come.new.self c.self.invariant.0 c.come.ensures.logs.taken c.come.ensures.logs.replied, same_moments v (over v c.come.new.self) c.self.invariant.1 c.come.ensures.logs.dialect c.come.ensures.logs.passed refl refl refl, c.self.invariant.2, remembers)
   where

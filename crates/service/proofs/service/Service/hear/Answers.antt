@@ -8,7 +8,7 @@ use Rattle.service.proofs.service.Service.hear.Goals as goal
 pub invariant_of-self : goal.invariant_of-self
 invariant_of-self g c =
     let s = c.self.inside in
-    let shown = g.E.Replicas.as_ensemble s.replicas in
+    let shown = g.E.ReplicaSet.as_ensemble s.replicas in
     let v : ServiceView = record { connections = s.connections; asked = shown.asked; answered = shown.answered; order = shown.order; assignments = assigned s.assignments.items; waiting = s.pool; queue = s.queue.items; replicas = none_shown } in
     let next = c.hear_at-heard.new.connections in
     let ok = connections_keep v next c.self.invariant.0 c.hear_at-heard.ensures.taken c.hear_at-heard.ensures.replied in

@@ -9,7 +9,7 @@ use Rattle.service.proofs.service.Service.note.Goals as goal
 pub invariant_of-self : goal.invariant_of-self
 invariant_of-self g c =
     let s = c.self.inside in
-    let shown = g.E.Replicas.as_ensemble s.replicas in
+    let shown = g.E.ReplicaSet.as_ensemble s.replicas in
     let v : ServiceView = record { connections = s.connections; asked = shown.asked; answered = shown.answered; order = shown.order; assignments = assigned s.assignments.items; waiting = s.pool; queue = s.queue.items; replicas = none_shown } in
     let next = c.note.new.self in
     let ok = connections_keep v next c.self.invariant.0 (ap (λ (x : ConnectionsView). x.taken) c.note.ensures.others) (ap (λ (x : ConnectionsView). x.replied) c.note.ensures.others) in

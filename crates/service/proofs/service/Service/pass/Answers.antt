@@ -34,7 +34,7 @@ execute-answers-requires g c =
 pub returns-clause-tells : goal.returns-clause-tells
 returns-clause-tells g c =
     let s = c.self.inside in
-    let shown = g.E.Replicas.as_ensemble s.replicas in
+    let shown = g.E.ReplicaSet.as_ensemble s.replicas in
     let mid = c.assign_all.new.self in
     let now = c.answer_all.new.self in
     let asked : TellsIn s.connections.table (s.refused + shown.refused) c.args.said.now.items mid.connections.table mid.replicas.refused c.assign_all.new.said.items = subst (λ (said : List Said). TellsIn s.connections.table (s.refused + shown.refused) said mid.connections.table mid.replicas.refused c.assign_all.new.said.items) c.has_room.ensures.said c.assign_all.ensures.tells in
@@ -70,7 +70,7 @@ returns-clause-stops g c = λ stops same few. elim c.if-goes_on.branch [
       let answers = c.execute-answers.result in
       let zero = eqb-true (vec_len answers) 0 (sym c.is_empty-goes_on.ensures ∙ w.if-goes_on.false) in
       let count : length answers.items ≡ 0 = omega (arith, zero) in
-      let was : ℕ = c.self.inside.refused + (g.E.Replicas.as_ensemble c.self.inside.replicas).refused in
+      let was : ℕ = c.self.inside.refused + (g.E.ReplicaSet.as_ensemble c.self.inside.replicas).refused in
       let is : was ≡ c.args.self.now.replicas.refused = ap (λ (v : ServiceView). v.replicas.refused) c.self.view_is in
       asked_and_rests c.assign_all.new.self c.execute-answers.new.self c.answer_all.new.self was _ _ _ c.assign_all.ensures.counted c.execute-answers.ensures.counted c.answer_all.ensures.counted c.assign_all.ensures.asks c.execute-answers.ensures.same (c.answer_all.ensures.none (nil_from_length answers.items count)) (same ∙ sym is) (omega (arith, few, is))
 ]

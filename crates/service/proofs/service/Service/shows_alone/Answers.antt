@@ -8,7 +8,7 @@ use Rattle.service.proofs.service.Service.shows_alone.Goals as goal
 pub returns : goal.returns
 returns g c =
     let s = c.self.inside in
-    let shown = g.E.Replicas.as_ensemble s.replicas in
+    let shown = g.E.ReplicaSet.as_ensemble s.replicas in
     let alone : ServiceView = record { connections = s.connections; asked = shown.asked; answered = shown.answered; order = shown.order; assignments = assigned s.assignments.items; waiting = s.pool; queue = s.queue.items; replicas = none_shown } in
     let v : ServiceView = record alone { replicas = record { ensemble = shown; refused = s.refused + shown.refused; pauses = s.nodes.pauses.items } } in
     let own : IsServiceAlone v = record {

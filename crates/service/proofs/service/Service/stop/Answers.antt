@@ -8,8 +8,8 @@ use Rattle.service.proofs.service.Service.stop.Goals as goal
 pub invariant_of-self : goal.invariant_of-self
 invariant_of-self g c =
     let s = c.self.inside in
-    let shown = g.E.Replicas.as_ensemble s.replicas in
-    let e = g.E.Replicas.as_ensemble c.stop.new.self in
+    let shown = g.E.ReplicaSet.as_ensemble s.replicas in
+    let e = g.E.ReplicaSet.as_ensemble c.stop.new.self in
     let v : ServiceView = record { connections = s.connections; asked = shown.asked; answered = shown.answered; order = shown.order; assignments = assigned s.assignments.items; waiting = s.pool; queue = s.queue.items; replicas = none_shown } in (
       tended_keeps v e.asked e.answered e.order s.pool c.self.invariant.0 c.stop.ensures.asked c.stop.ensures.answered c.stop.ensures.order (λ i a w. w),
       same_moments v (record v { asked = e.asked; answered = e.answered; order = e.order }) c.self.invariant.1 refl refl c.stop.ensures.order refl c.stop.ensures.answered,

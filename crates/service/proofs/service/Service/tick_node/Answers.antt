@@ -2,7 +2,7 @@ use Rattle.std.proofs.Common.{rules, ◌≡◌, ◌+◌, ◌*◌, Bool, true, fa
 use Rattle.events.specs.declared.event.Replica.{Replica}
 use Rattle.ensemble.specs.Shown.{is_up_at}
 use Rattle.service.specs.Service.{ServiceView, none_shown, assigned}
-use Rattle.service.specs.Replicas.{OthersAreAsTheyWere}
+use Rattle.service.specs.ReplicaSet.{OthersAreAsTheyWere}
 use Rattle.service.specs.Ticks.{replica_at, is_up_in, NodeTicks, OthersStay}
 use Rattle.service.proofs.MomentLemmas.{same_moments}
 use Rattle.service.proofs.KeepLemmas.{tended_keeps}
@@ -12,8 +12,8 @@ use Rattle.service.proofs.service.Service.tick_node.Goals as goal
 pub invariant_of-self : goal.invariant_of-self
 invariant_of-self g c =
     let s = c.self.inside in
-    let shown = g.E.Replicas.as_ensemble s.replicas in
-    let e = g.E.Replicas.as_ensemble c.restart-is_back.new.self in
+    let shown = g.E.ReplicaSet.as_ensemble s.replicas in
+    let e = g.E.ReplicaSet.as_ensemble c.restart-is_back.new.self in
     let v : ServiceView = record { connections = s.connections; asked = shown.asked; answered = shown.answered; order = shown.order; assignments = assigned s.assignments.items; waiting = s.pool; queue = s.queue.items; replicas = none_shown } in
     let paused = ticks_keep s.u s.nodes.members c.tick.new.self.members shown.nodes c.args.at c.is_up-is_up.result c.tick.result s.nodes.pauses.items c.tick.new.self.pauses.items c.self.invariant.2 c.tick.ensures.members c.tick.ensures.ticks in (
       tended_keeps v e.asked e.answered e.order s.pool c.self.invariant.0 c.restart-is_back.ensures.asked c.restart-is_back.ensures.answered c.restart-is_back.ensures.order (λ i a w. w),
@@ -25,7 +25,7 @@ invariant_of-self g c =
 pub invariant_of-self-else-tick : goal.invariant_of-self-else-tick
 invariant_of-self-else-tick g c =
     let s = c.self.inside in
-    let shown = g.E.Replicas.as_ensemble s.replicas in (
+    let shown = g.E.ReplicaSet.as_ensemble s.replicas in (
       c.self.invariant.0,
       c.self.invariant.1,
       ticks_keep s.u s.nodes.members c.tick.new.self.members shown.nodes c.args.at c.is_up-is_up.result c.tick.result s.nodes.pauses.items c.tick.new.self.pauses.items c.self.invariant.2 c.tick.ensures.members c.tick.ensures.ticks,
@@ -35,7 +35,7 @@ invariant_of-self-else-tick g c =
 pub returns-then-tick-clause-ticks : goal.returns-then-tick-clause-ticks
 returns-then-tick-clause-ticks g c =
     let s = c.self.inside in
-    let shown = g.E.Replicas.as_ensemble s.replicas in
+    let shown = g.E.ReplicaSet.as_ensemble s.replicas in
     let now = ap (λ (v : ServiceView). v.replicas.refused) c.self.view_is in
     let here : c.replica-replica.result ≡ replica_at (2 * shown.nodes.u + 1) c.args.at = c.replica-replica.ensures ∙ node_here s.u s.nodes.members shown.nodes s.nodes.pauses.items c.args.at c.self.invariant.2 in
     let found : c.is_up-is_up.result ≡ is_up_in shown.nodes c.args.at = c.is_up-is_up.ensures ∙ ap (is_up_at shown.nodes) here in
@@ -43,14 +43,14 @@ returns-then-tick-clause-ticks g c =
       true,
       subst (λ (v : ServiceView). NodeTicks c.args.at (is_up_in v.replicas.ensemble.nodes c.args.at) v.replicas.pauses c.tick.new.self.pauses.items true) c.self.view_is
           (subst (λ (z : Bool × Bool). NodeTicks c.args.at z.0 s.nodes.pauses.items c.tick.new.self.pauses.items z.1) (λ i. (found i, due i)) c.tick.ensures.ticks),
-      λ same below. opened_here c.args.at c.replica-replica.result shown.nodes (g.E.Replicas.as_ensemble c.restart-is_back.new.self).nodes c.restart-is_back.result here c.restart-is_back.ensures.size c.restart-is_back.ensures.up (c.restart-is_back.ensures.opened (omega (arith, same, now)) (omega (arith, below, now))),
+      λ same below. opened_here c.args.at c.replica-replica.result shown.nodes (g.E.ReplicaSet.as_ensemble c.restart-is_back.new.self).nodes c.restart-is_back.result here c.restart-is_back.ensures.size c.restart-is_back.ensures.up (c.restart-is_back.ensures.opened (omega (arith, same, now)) (omega (arith, below, now))),
     )
 
 pub returns-then-tick-clause-others : goal.returns-then-tick-clause-others
 returns-then-tick-clause-others g c =
     let s = c.self.inside in
-    let shown = g.E.Replicas.as_ensemble s.replicas in
-    let n = (g.E.Replicas.as_ensemble c.restart-is_back.new.self).nodes in
+    let shown = g.E.ReplicaSet.as_ensemble s.replicas in
+    let n = (g.E.ReplicaSet.as_ensemble c.restart-is_back.new.self).nodes in
     let here : c.replica-replica.result ≡ replica_at (2 * shown.nodes.u + 1) c.args.at = c.replica-replica.ensures ∙ node_here s.u s.nodes.members shown.nodes s.nodes.pauses.items c.args.at c.self.invariant.2 in
     subst (λ (v : ServiceView). OthersStay c.args.at v.replicas.ensemble.nodes n) c.self.view_is
     (others_stay c.args.at shown.nodes n c.restart-is_back.ensures.size (subst (λ (r : Replica). OthersAreAsTheyWere r shown.nodes n) here c.restart-is_back.ensures.others))
@@ -58,7 +58,7 @@ returns-then-tick-clause-others g c =
 pub returns-else-tick-clause-ticks : goal.returns-else-tick-clause-ticks
 returns-else-tick-clause-ticks g c =
     let s = c.self.inside in
-    let shown = g.E.Replicas.as_ensemble s.replicas in
+    let shown = g.E.ReplicaSet.as_ensemble s.replicas in
     let here : c.replica-replica.result ≡ replica_at (2 * shown.nodes.u + 1) c.args.at = c.replica-replica.ensures ∙ node_here s.u s.nodes.members shown.nodes s.nodes.pauses.items c.args.at c.self.invariant.2 in
     let found : c.is_up-is_up.result ≡ is_up_in shown.nodes c.args.at = c.is_up-is_up.ensures ∙ ap (is_up_at shown.nodes) here in
     let due : c.tick.result ≡ false = search rules in (
@@ -69,4 +69,4 @@ returns-else-tick-clause-ticks g c =
     )
 
 pub returns-else-tick-clause-others : goal.returns-else-tick-clause-others
-returns-else-tick-clause-others g c = same_stay c.args.at c.args.self.now.replicas.ensemble.nodes (g.E.Replicas.as_ensemble c.self.inside.replicas).nodes (ap (λ (v : ServiceView). v.replicas.ensemble.nodes) c.self.view_is)
+returns-else-tick-clause-others g c = same_stay c.args.at c.args.self.now.replicas.ensemble.nodes (g.E.ReplicaSet.as_ensemble c.self.inside.replicas).nodes (ap (λ (v : ServiceView). v.replicas.ensemble.nodes) c.self.view_is)

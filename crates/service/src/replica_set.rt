@@ -9,7 +9,7 @@ ghost use Rattle.ensemble.specs.Shown.{is_up_at};
 ghost use Rattle.ensemble.specs.Calls.{IsStopped};
 ghost use Rattle.ensemble.specs.Served.{IsAtRest};
 ghost use Rattle.ensemble.specs.Ensemble.{EnsembleView, IsLogged, answer_entry};
-ghost use Rattle.service.specs.Replicas.{OthersAreAsTheyWere, IsWorkNoted};
+ghost use Rattle.service.specs.ReplicaSet.{OthersAreAsTheyWere, IsWorkNoted};
 
 use ensemble::{Answer, Ensemble, Replica, Seen, Times};
 use proto::{Command, Fault};
@@ -23,7 +23,7 @@ use std::thread::Threads;
 ///
 /// The clauses are what a service needs of an ensemble's calls, and no more: a type with fewer replicas, whose letters go
 /// to other machines, can keep them too.
-pub trait Replicas {
+pub trait ReplicaSet {
     ghost use denote.Param.Send.{IsSync};
 
     /// What is shown of them: their nodes and proxies, and what was asked and answered. They need not be a whole ensemble.
@@ -158,7 +158,7 @@ pub trait Replicas {
 }
 
 /// All replicas of a server, in one process.
-impl Replicas for Ensemble {
+impl ReplicaSet for Ensemble {
     ghost use Rattle.ensemble.specs.Nodes.{IsFree};
 
     ghost as_ensemble = { λ e. e };
