@@ -1,4 +1,5 @@
 pub mod Places
+pub mod Forms
 pub mod Behind
 pub mod Steps
 pub mod Works

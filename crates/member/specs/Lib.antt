@@ -1,6 +1,7 @@
 pub mod ShownLog
 pub mod Member
 pub mod Recording
+pub mod ProcessForm
 pub mod Asking
 pub mod Passing
 pub mod Tending

@@ -1,6 +1,7 @@
 //! The laws of members.
 
 ghost use Rattle.member.specs.Laws.{MembersAreOneEnsemble, MembersOfLivesAreOneEnsemble};
+ghost use Rattle.member.specs.ProcessForm.{FormIsOfOneMember};
 
 use site_laws::{a_life_leads_to_the_next, a_site_is_an_ensemble};
 use std::alloc::Global;
@@ -24,3 +25,9 @@ pub fn members_of_lives_are_a_site(alloc: Global)
     a_site_is_an_ensemble(alloc);
     a_life_leads_to_the_next();
 }
+
+/// The record of a process is in the form of that of one member of a number, if it is in that of any: so `of_process` makes of
+/// what `process` made the record that was there. The call does nothing.
+pub fn a_process_form_is_of_one_member()
+    ensures { FormIsOfOneMember }
+{}

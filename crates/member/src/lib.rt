@@ -9,6 +9,8 @@
 //!     member.again(alloc, 1);                                 // no reply came: it asks all executors
 //!     member.restart(alloc, Replica::Executor(0));            // its executor stopped, and is opened again
 //!     let record = member.record(alloc)?;                     // what is kept of it if its process ends
+//!     let process = record.process(alloc)?;                   // that, as what is kept of a process is stored
+//!     let record = MemberRecord::of_process(alloc, 0, &process)?;
 //!     let member = Member::reopen(alloc, &config, 0, record)?;    // another process goes on from there
 //!
 //! It is built on `ensemble`, whose `Nodes` it has: of these only its own are ever opened, and what the others would have
@@ -26,12 +28,13 @@ mod member;
 mod member_record;
 mod opening;
 mod passing;
+mod process_form;
 mod recording;
 mod shown_entry;
 mod shown_log;
 mod tending;
 mod working;
 
-pub use laws::{members_are_a_site, members_of_lives_are_a_site};
+pub use laws::{a_process_form_is_of_one_member, members_are_a_site, members_of_lives_are_a_site};
 pub use member::Member;
 pub use member_record::MemberRecord;

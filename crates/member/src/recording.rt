@@ -22,7 +22,7 @@ use std::collections::VecDeque;
 use worlds::VerifierSlot;
 
 /// These proxies once more.
-fn copied(alloc: Global, proxies: &[Proxy]) -> Result<Vec<Proxy>, AllocError>
+pub(crate) fn copied(alloc: Global, proxies: &[Proxy]) -> Result<Vec<Proxy>, AllocError>
     ensures { IfOk result (λ copies. copies.items ≡ proxies.now) }
 {
     let mut copies = Vec::with_capacity(alloc, proxies.len())?;

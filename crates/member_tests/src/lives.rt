@@ -113,3 +113,22 @@ fn a_record_is_of_one_member_of_a_site_of_one_size(rt: HostRuntime) -> Result<()
     assert!(rt; is_refused(rt.alloc(), 0, 6, 0) == Ok(true));
     Ok(())
 }
+
+/// Whether the record of the first member, in the form of that of a process, is that of this member.
+fn is_form_of(alloc: Global, id: u8) -> Result<bool, Fault> {
+    let process = recorded(alloc)?.process(alloc)?;
+    match MemberRecord::of_process(alloc, id, &process) {
+        Ok(kept) => Ok(kept.id() == id),
+        Err(Fault::Unfit) => Ok(false),
+        Err(fault) => Err(fault),
+    }
+}
+
+#[test]
+fn the_record_of_a_process_is_that_of_one_member(rt: HostRuntime) -> Result<(), Fail> {
+    assert!(rt; is_form_of(rt.alloc(), 0) == Ok(true));
+    assert!(rt; is_form_of(rt.alloc(), 1) == Ok(false));
+    assert!(rt; is_form_of(rt.alloc(), 2) == Ok(false));
+    assert!(rt; is_form_of(rt.alloc(), 3) == Ok(false));
+    Ok(())
+}

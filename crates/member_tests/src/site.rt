@@ -201,7 +201,9 @@ fn reopen(
     kept: &mut Vec<MemberRecord>,
 ) -> Result<(), Fault> {
     let config = Config::new(1, ALL_PROXIES)?;
-    let found = kept.pop().ok_or(Fault::Unfit)?;
+    let kept = kept.pop().ok_or(Fault::Unfit)?;
+    let stored = kept.process(alloc)?;
+    let found = MemberRecord::of_process(alloc, id, &stored)?;
     let member = Member::reopen(alloc, &config, id, found)?;
     put(members, id, member);
     Ok(())

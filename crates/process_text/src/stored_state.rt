@@ -1,6 +1,6 @@
 //! The state that is stored beside the text of a process.
 
-ghost use Rattle.std.specs.Prelude.{◌≡◌, IfOk};
+ghost use Rattle.std.specs.Prelude.{◌≡◌, ◌<◌, IfOk};
 ghost use Rattle.wire.specs.Record.{Reads};
 ghost use Rattle.states.specs.State.{IsState};
 ghost use Rattle.states.specs.StateRecord.{state_text};
@@ -55,7 +55,8 @@ impl ProcessText {
     /// The state of this head and these sessions with the items of these pages. `BadRecord`: there is none, as if an item
     /// was changed, since the token is not the one that comes out. `NoMemory` is the only other error.
     pub fn state_with(&self, alloc: Global, pages: Pages) -> Result<State, Fault>
-        ensures { IfOk result (IsStateOf self.now) }
+        ensures of { IfOk result (IsStateOf self.now) }
+        ensures items { IfOk result (λ state. 0 < self.now.head.origin.number → state.items ≡ pages) }
     {
         self.head.state(alloc, self.sessions.clone()?, pages)
     }

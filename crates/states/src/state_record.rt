@@ -1,6 +1,6 @@
 //! The record of a state, by itself and over the state before it.
 
-ghost use Rattle.std.specs.Prelude.{◌≡◌, ◌++◌, IfOk, OnOk};
+ghost use Rattle.std.specs.Prelude.{◌≡◌, ◌++◌, ◌<◌, IfOk, OnOk};
 ghost use Rattle.items.specs.Map.{Items};
 ghost use Rattle.wire.specs.Record.{Puts, Takes};
 ghost use Rattle.pages.specs.Others.{AreSameBeside, AreChanged};
@@ -77,6 +77,7 @@ impl Head {
         ensures state { IfOk result IsState }
         ensures head { IfOk result (λ state. head_of_state state ≡ self.now) }
         ensures sessions { IfOk result (λ state. state.sessions ≡ sessions) }
+        ensures items { IfOk result (λ state. 0 < self.now.origin.number → state.items ≡ pages) }
     {
         if self.origin.number == 0 {
             return self.first_state(alloc, &sessions);
