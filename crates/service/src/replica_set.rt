@@ -1,7 +1,6 @@
 //! What a service needs of its replicas.
 
 ghost use Rattle.std.specs.Prelude.{◌≡◌, ◌<◌, ◌≤◌, ◌-◌, ◌^◌, ◌++◌, ◌∷◌, [], ℕ, map, true, false, IfOk, OnErr, IsTrue};
-ghost use Rattle.proto.specs.declared.command.Command.{Command};
 ghost use Rattle.memcached_spec.specs.Asked.{HasText};
 ghost use Rattle.ensemble.specs.declared.noted.Noted.TheVariants as noted;
 ghost use Rattle.ensemble.specs.Nodes.{size_of};
