@@ -1,0 +1,3 @@
+mod HelloLemmas
+mod LaneLemmas
+mod WayLemmas
