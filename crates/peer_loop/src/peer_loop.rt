@@ -1,10 +1,10 @@
 //! The loop over the listener and the connections of all peers.
 
-use crate::places::{Place, lane_index, place_of, token_of};
+use crate::places::{ConnectionPlace, lane_index, place_of, token_of};
 use crate::setup::{
-    Peer, Setup, lanes_in, lanes_out, no_letters, no_sockets, no_waits, other_members,
+    OtherMember, Setup, lanes_in, lanes_out, no_letters, no_sockets, no_waits, other_members,
 };
-use crate::socket::{After, Socket};
+use crate::socket::{NextStep, PeerSocket};
 use base::Text;
 use links::{LaneBounds, LinkFault, Message};
 use mio::net::{TcpListener, TcpStream};
@@ -45,7 +45,7 @@ pub struct PeerLoop {
     pub(crate) listener: TcpListener,
     pub(crate) id: Identity,
     pub(crate) bulk: LaneBounds,
-    pub(crate) peers: Vec<Peer>,
+    pub(crate) peers: Vec<OtherMember>,
     /// Two lanes to each peer, and two from it: quick and bulk.
     pub(crate) out_lanes: Vec<OutLane>,
     pub(crate) in_lanes: Vec<InLane>,
@@ -53,7 +53,7 @@ pub struct PeerLoop {
     /// What waits to be written to each stranger.
     pub(crate) waits: Vec<Backlog>,
     /// The connection at each place: of lanes to peers, of lanes from peers, and of strangers.
-    pub(crate) sockets: Vec<Option<Socket>>,
+    pub(crate) sockets: Vec<Option<PeerSocket>>,
     /// The letters that came on each lane from a peer, and are not taken.
     pub(crate) letters: Vec<Vec<Message>>,
     pub(crate) buffer: Vec<u8>,
@@ -217,24 +217,35 @@ impl PeerLoop {
         Duration::from_millis(first.saturating_sub(now)).min(most)
     }
 
-    /// Waits until something can be done, at most so long, and does it.
+    /// Waits until something can be done, at most so long, and does it. An error is of the clock or of the wait; no lane has
+    /// changed then.
     pub fn pass<R: Net + Clock + RandomSource>(
         &mut self,
         rt: &R,
         most: Duration,
     ) -> io::Result<()> {
-        let limit = self.limit(self.now(rt)?, most);
-        self.poll.poll(&mut self.events, Some(limit))?;
-        self.has_more = false;
-        self.note_all();
+        self.wait(rt, most)?;
         let now = self.now(rt)?;
+        for at in 0..self.sockets.len() {
+            self.visit(rt, at, now);
+        }
+        // What came while this thread was busy is heard before a lane is closed for its silence.
         self.tick_out(rt, now);
         self.tick_in(now);
         self.close_late(now);
         self.accept(now);
-        for at in 0..self.sockets.len() {
-            self.visit(rt, at, now);
+        Ok(())
+    }
+
+    /// Waits for events, at most so long, and notes what they tell.
+    fn wait<R: Clock>(&mut self, rt: &R, most: Duration) -> io::Result<()> {
+        let limit = self.limit(self.now(rt)?, most);
+        if let Err(e) = self.poll.poll(&mut self.events, Some(limit)) {
+            if e.kind() != ErrorKind::Interrupted {
+                return Err(e);
+            }
         }
+        self.note_all();
         Ok(())
     }
 
@@ -271,7 +282,7 @@ impl PeerLoop {
     /// Begins to connect a lane to its peer.
     fn connect<R: Net>(&mut self, rt: &R, at: usize, now: u64) {
         let made = match self.peers.get(at / 2) {
-            Some(peer) => TcpStream::connect(rt, peer.address).and_then(|stream| Socket::new(
+            Some(peer) => TcpStream::connect(rt, peer.address).and_then(|stream| PeerSocket::new(
                 &self.poll, stream, at,
             )),
             None => return,
@@ -305,7 +316,7 @@ impl PeerLoop {
                 return;
             };
             if lane.tick(now) {
-                self.remove(token_of(Place::In(at), lanes));
+                self.remove(token_of(ConnectionPlace::In(at), lanes));
             }
         }
     }
@@ -323,7 +334,7 @@ impl PeerLoop {
     /// Closes the stranger at this place.
     fn leave(&mut self, at: usize) {
         self.strangers.leave(at);
-        self.remove(token_of(Place::Stranger(at), self.in_lanes.len()));
+        self.remove(token_of(ConnectionPlace::Stranger(at), self.in_lanes.len()));
     }
 
     /// Accepts the connections that wait, a few at most.
@@ -334,11 +345,12 @@ impl PeerLoop {
             }
             match self.listener.accept() {
                 Ok((stream, _)) => self.admit(stream, now),
-                Err(e) => {
-                    if e.kind() == ErrorKind::WouldBlock {
-                        self.may_accept = false;
-                    }
-                }
+                Err(e) => match e.kind() {
+                    ErrorKind::Interrupted | ErrorKind::ConnectionAborted => {}
+                    ErrorKind::WouldBlock => self.may_accept = false,
+                    // No descriptor is left, as a rule. The next pass tries it again.
+                    _ => return,
+                },
             }
         }
         self.has_more = true;
@@ -349,8 +361,8 @@ impl PeerLoop {
         let Some(at) = self.strangers.come(self.alloc, self.id, now) else {
             return;
         };
-        let token = token_of(Place::Stranger(at), self.in_lanes.len());
-        let made = Socket::new(&self.poll, stream, token);
+        let token = token_of(ConnectionPlace::Stranger(at), self.in_lanes.len());
+        let made = PeerSocket::new(&self.poll, stream, token);
         match (made, self.sockets.get_mut(token), self.waits.get_mut(at)) {
             (Ok(socket), Some(place), Some(waits)) => {
                 *place = Some(socket);
@@ -364,9 +376,9 @@ impl PeerLoop {
     fn visit<R: RandomSource>(&mut self, rt: &R, token: usize, now: u64) {
         for _ in 0..MOST_STEPS {
             match self.step(rt, token, now) {
-                After::Rest => return,
-                After::Again => {}
-                After::Close => {
+                NextStep::Rest => return,
+                NextStep::Again => {}
+                NextStep::Close => {
                     self.close(token, now);
                     return;
                 }
@@ -378,14 +390,14 @@ impl PeerLoop {
     /// The connection at this place has ended, or what came on it is not right.
     pub(crate) fn close(&mut self, token: usize, now: u64) {
         match place_of(token, self.in_lanes.len()) {
-            Place::Out(at) => self.lose_out(at, now),
-            Place::In(at) => {
+            ConnectionPlace::Out(at) => self.lose_out(at, now),
+            ConnectionPlace::In(at) => {
                 if let Some(lane) = self.in_lanes.get_mut(at) {
                     lane.lose();
                 }
                 self.remove(token);
             }
-            Place::Stranger(at) => self.leave(at),
+            ConnectionPlace::Stranger(at) => self.leave(at),
         }
     }
 }

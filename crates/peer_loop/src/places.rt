@@ -4,7 +4,7 @@ use peers::LaneKind;
 
 /// What a connection is for.
 #[derive(Clone, Copy, Debug, PartialEq, Eq)]
-pub enum Place {
+pub enum ConnectionPlace {
     /// The lane to a peer, by its index among the lanes.
     Out(usize),
     /// The lane from a peer.
@@ -32,22 +32,22 @@ pub fn lane_at(index: usize) -> LaneKind {
 }
 
 /// The place of this token, if there are so many lanes each way.
-pub fn place_of(token: usize, lanes: usize) -> Place {
+pub fn place_of(token: usize, lanes: usize) -> ConnectionPlace {
     if token < lanes {
-        return Place::Out(token);
+        return ConnectionPlace::Out(token);
     }
     let rest = token - lanes;
     if rest < lanes {
-        return Place::In(rest);
+        return ConnectionPlace::In(rest);
     }
-    Place::Stranger(rest - lanes)
+    ConnectionPlace::Stranger(rest - lanes)
 }
 
 /// The token of a place, if there are so many lanes each way.
-pub fn token_of(place: Place, lanes: usize) -> usize {
+pub fn token_of(place: ConnectionPlace, lanes: usize) -> usize {
     match place {
-        Place::Out(index) => index,
-        Place::In(index) => lanes.saturating_add(index),
-        Place::Stranger(index) => lanes.saturating_mul(2).saturating_add(index),
+        ConnectionPlace::Out(index) => index,
+        ConnectionPlace::In(index) => lanes.saturating_add(index),
+        ConnectionPlace::Stranger(index) => lanes.saturating_mul(2).saturating_add(index),
     }
 }

@@ -1,6 +1,6 @@
 //! What a member has to know of its site, and a loop with no connection.
 
-use crate::socket::Socket;
+use crate::socket::PeerSocket;
 use links::{LaneBounds, Message};
 use peers::{Backlog, Identity, InLane, MOST_STRANGERS, OutLane};
 use std::alloc::Global;
@@ -31,18 +31,18 @@ impl Drop for Setup {
 
 /// Another member.
 #[derive(Clone, Copy)]
-pub struct Peer {
+pub struct OtherMember {
     pub id: u8,
     pub address: SocketAddr,
 }
 
 /// The other members.
-pub fn other_members(alloc: Global, setup: &Setup) -> io::Result<Vec<Peer>> {
+pub fn other_members(alloc: Global, setup: &Setup) -> io::Result<Vec<OtherMember>> {
     let mut peers = Vec::new(alloc);
     let mut id = 0u8;
     for address in &setup.addresses {
         if id != setup.id.me {
-            peers.push(Peer {
+            peers.push(OtherMember {
                 id,
                 address: *address,
             })?;
@@ -53,7 +53,11 @@ pub fn other_members(alloc: Global, setup: &Setup) -> io::Result<Vec<Peer>> {
 }
 
 /// The lanes to peers.
-pub fn lanes_out(alloc: Global, peers: &[Peer], bulk: LaneBounds) -> io::Result<Vec<OutLane>> {
+pub fn lanes_out(
+    alloc: Global,
+    peers: &[OtherMember],
+    bulk: LaneBounds,
+) -> io::Result<Vec<OutLane>> {
     let mut lanes = Vec::new(alloc);
     for _ in peers {
         lanes.push(OutLane::new(alloc, LaneBounds::QUICK, 0))?;
@@ -63,7 +67,7 @@ pub fn lanes_out(alloc: Global, peers: &[Peer], bulk: LaneBounds) -> io::Result<
 }
 
 /// The lanes from peers.
-pub fn lanes_in(alloc: Global, peers: &[Peer], lives: &[u64]) -> io::Result<Vec<InLane>> {
+pub fn lanes_in(alloc: Global, peers: &[OtherMember], lives: &[u64]) -> io::Result<Vec<InLane>> {
     let mut lanes = Vec::new(alloc);
     for peer in peers {
         let life = lives.get(usize::from(peer.id)).copied().unwrap_or(0);
@@ -74,7 +78,7 @@ pub fn lanes_in(alloc: Global, peers: &[Peer], lives: &[u64]) -> io::Result<Vec<
 }
 
 /// So many places with no connection.
-pub fn no_sockets(alloc: Global, count: usize) -> io::Result<Vec<Option<Socket>>> {
+pub fn no_sockets(alloc: Global, count: usize) -> io::Result<Vec<Option<PeerSocket>>> {
     let mut sockets = Vec::with_capacity(alloc, count)?;
     for _ in 0..count {
         sockets.push(None)?;

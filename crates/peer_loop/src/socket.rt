@@ -9,7 +9,7 @@ use std::io::{ErrorKind, Read};
 
 /// What follows a step.
 #[derive(Clone, Copy, Debug, PartialEq, Eq)]
-pub enum After {
+pub enum NextStep {
     /// Nothing more can be done until an event comes.
     Rest,
     /// More can be done at once.
@@ -20,7 +20,7 @@ pub enum After {
 
 /// What one read gives.
 #[derive(Drop)]
-pub enum Piece {
+pub enum ReadOutcome {
     /// These bytes, at least one.
     Bytes(Vec<u8>),
     /// Nothing for now.
@@ -30,16 +30,16 @@ pub enum Piece {
 }
 
 /// A connection, and what its events told.
-pub struct Socket {
+pub struct PeerSocket {
     pub stream: TcpStream,
     /// A read may give something. Events come only at changes, so this stays until a read finds nothing.
     pub is_readable: bool,
     pub is_writable: bool,
 }
 
-impl Drop for Socket {
+impl Drop for PeerSocket {
     fn drop(self) {
-        let Socket {
+        let PeerSocket {
             stream: _,
             is_readable: _,
             is_writable: _,
@@ -48,22 +48,22 @@ impl Drop for Socket {
 }
 
 /// What follows a read or a write that failed.
-fn after_failure(kind: ErrorKind) -> After {
+fn after_failure(kind: ErrorKind) -> NextStep {
     match kind {
-        ErrorKind::WouldBlock => After::Rest,
-        ErrorKind::Interrupted => After::Again,
-        _ => After::Close,
+        ErrorKind::WouldBlock => NextStep::Rest,
+        ErrorKind::Interrupted => NextStep::Again,
+        _ => NextStep::Close,
     }
 }
 
-impl Socket {
+impl PeerSocket {
     /// A connection that is made, or was accepted, and is made known to the poll under this token.
-    pub fn new(poll: &Poll, mut stream: TcpStream, token: usize) -> io::Result<Socket> {
+    pub fn new(poll: &Poll, mut stream: TcpStream, token: usize) -> io::Result<PeerSocket> {
         // A system that does not do so sends small letters a little later.
         let _ = stream.set_nodelay(true);
         let both = Interest::READABLE | Interest::WRITABLE;
         poll.registry().register(&mut stream, Token(token), both)?;
-        Ok(Socket {
+        Ok(PeerSocket {
             stream,
             is_readable: false,
             is_writable: false,
@@ -78,60 +78,60 @@ impl Socket {
     }
 
     /// Whether a connection that was begun is there. Rest: not yet.
-    pub fn is_made(&self) -> After {
+    pub fn is_made(&self) -> NextStep {
         if !self.is_writable {
-            return After::Rest;
+            return NextStep::Rest;
         }
         match self.stream.take_error() {
             Ok(None) => {}
-            _ => return After::Close,
+            _ => return NextStep::Close,
         }
         match self.stream.peer_addr() {
-            Ok(_) => After::Again,
+            Ok(_) => NextStep::Again,
             Err(e) => match e.kind() {
-                ErrorKind::NotConnected => After::Rest,
-                _ => After::Close,
+                ErrorKind::NotConnected => NextStep::Rest,
+                _ => NextStep::Close,
             },
         }
     }
 
     /// Reads once.
-    pub fn read(&mut self, alloc: Global, buffer: &mut [u8]) -> Piece {
+    pub fn read(&mut self, alloc: Global, buffer: &mut [u8]) -> ReadOutcome {
         if !self.is_readable {
-            return Piece::Nothing;
+            return ReadOutcome::Nothing;
         }
         match self.stream.read(buffer) {
-            Ok(0) => Piece::End,
+            Ok(0) => ReadOutcome::End,
             Ok(count) => {
                 let (piece, _) = buffer.split_at(count);
                 match Vec::from_slice(alloc, piece) {
-                    Ok(bytes) => Piece::Bytes(bytes),
-                    Err(AllocError) => Piece::End,
+                    Ok(bytes) => ReadOutcome::Bytes(bytes),
+                    Err(AllocError) => ReadOutcome::End,
                 }
             }
             Err(e) => self.failed_read(e.kind()),
         }
     }
 
-    fn failed_read(&mut self, kind: ErrorKind) -> Piece {
+    fn failed_read(&mut self, kind: ErrorKind) -> ReadOutcome {
         match after_failure(kind) {
-            After::Rest => {
+            NextStep::Rest => {
                 self.is_readable = false;
-                Piece::Nothing
+                ReadOutcome::Nothing
             }
-            After::Again => Piece::Nothing,
-            After::Close => Piece::End,
+            NextStep::Again => ReadOutcome::Nothing,
+            NextStep::Close => ReadOutcome::End,
         }
     }
 
     /// What follows a write.
-    fn wrote(&mut self, outcome: io::Result<usize>) -> After {
+    fn wrote(&mut self, outcome: io::Result<usize>) -> NextStep {
         match outcome {
-            Ok(0) => After::Close,
-            Ok(_) => After::Again,
+            Ok(0) => NextStep::Close,
+            Ok(_) => NextStep::Again,
             Err(e) => {
                 let after = after_failure(e.kind());
-                if after == After::Rest {
+                if after == NextStep::Rest {
                     self.is_writable = false;
                 }
                 after
@@ -140,27 +140,27 @@ impl Socket {
     }
 
     /// Writes once what a lane to a peer has.
-    pub fn write_out(&mut self, lane: &mut OutLane) -> After {
+    pub fn write_out(&mut self, lane: &mut OutLane) -> NextStep {
         if !self.is_writable || !lane.has_output() {
-            return After::Rest;
+            return NextStep::Rest;
         }
         let outcome = lane.write(&mut self.stream);
         self.wrote(outcome)
     }
 
     /// Writes once what a lane from a peer has.
-    pub fn write_in(&mut self, lane: &mut InLane) -> After {
+    pub fn write_in(&mut self, lane: &mut InLane) -> NextStep {
         if !self.is_writable || !lane.has_output() {
-            return After::Rest;
+            return NextStep::Rest;
         }
         let outcome = lane.write(&mut self.stream);
         self.wrote(outcome)
     }
 
     /// Writes once what waits of hellos.
-    pub fn write_waiting(&mut self, waits: &mut peers::Backlog) -> After {
+    pub fn write_waiting(&mut self, waits: &mut peers::Backlog) -> NextStep {
         if !self.is_writable || waits.is_empty() {
-            return After::Rest;
+            return NextStep::Rest;
         }
         let outcome = waits.write(&mut self.stream);
         self.wrote(outcome)

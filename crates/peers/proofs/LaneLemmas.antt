@@ -5,9 +5,9 @@ use Rattle.links.specs.Numbered.{Numbered}
 use Rattle.links.specs.Sending.{SendingView, IsNextToHandOut, with_said, with_acknowledged}
 use Rattle.links.specs.declared.receiving.Receiving.{Receiving}
 use Rattle.links.specs.Receiving.{Receives}
-use Rattle.peers.specs.Lanes.{HandsOut, acknowledged_by, LetsGo, ReceivesAll, ReceivesSome, given_list}
+use Rattle.peers.specs.Lanes.{HandsOutLetters, acknowledged_by, LetsGo, ReceivesAll, ReceivesSome, given_list}
 
-pub hands_out_more : (old mid new : SendingView) (xs : List Numbered) (x : Numbered) → HandsOut old xs mid → IsNextToHandOut mid x → new ≡ with_said x.0 mid → HandsOut old (xs ++ x ∷ []) new
+pub hands_out_more : (old mid new : SendingView) (xs : List Numbered) (x : Numbered) → HandsOutLetters old xs mid → IsNextToHandOut mid x → new ≡ with_said x.0 mid → HandsOutLetters old (xs ++ x ∷ []) new
 hands_out_more old mid new [] x h next e = (subst (λ (s : SendingView). IsNextToHandOut s x) h next, e ∙ ap (with_said x.0) h)
 hands_out_more old mid new (y ∷ ys) x h next e = (h.0, hands_out_more (with_said y.0 old) mid new ys x h.1 next e)
 

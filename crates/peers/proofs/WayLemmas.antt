@@ -13,7 +13,7 @@ use Rattle.links.specs.Numbered.{Numbered}
 use Rattle.links.specs.Message.{message_text}
 use Rattle.links.specs.Pieces.{bytes_of_pieces}
 use Rattle.links.specs.Reading.{MessageReaderView, HasReadMessages, ReadsMore}
-use Rattle.peers.specs.Ways.{IncomingView, HasHeard, HearsMore, Hears, OutgoingView, HasSaid, Says}
+use Rattle.peers.specs.Ways.{IncomingView, HasHeard, HearsMore, HearsMessages, OutgoingView, HasSaid, SaysMessages}
 
 -- ---- what comes
 
@@ -59,7 +59,7 @@ hears_more i j bytes pieces old new opens reads most key all before h =
 
 -- what is read of bytes that come to a list with no message in it is that list
 pub hears_all : (i j : IncomingView) (bytes : List ℕ) (new : List Numbered)
-    → ((most : ℕ) (key all : List ℕ) (before : List Numbered) → HasHeard most key all before i → HearsMore most key (all ++ bytes) before [] new j) → Hears i bytes new j
+    → ((most : ℕ) (key all : List ℕ) (before : List Numbered) → HasHeard most key all before i → HearsMore most key (all ++ bytes) before [] new j) → HearsMessages i bytes new j
 hears_all i j bytes new h most key all before heard =
     let more = h most key all before heard in
     subst (λ (ms : List Numbered). HasHeard most key (all ++ bytes) (before ++ ms) j) (sym more.1) more.2
@@ -92,18 +92,18 @@ said_none key waits o plain e sealer = record {
 }
 
 -- nothing is said
-pub says_nothing : (o : OutgoingView) → Says o [] [] o
+pub says_nothing : (o : OutgoingView) → SaysMessages o [] [] o
 says_nothing o front key before written h =
     subst (λ (ms : List Numbered). HasSaid front key ms (written ++ []) o) (sym (append-nil before)) (subst (λ (xs : List ℕ). HasSaid front key before xs o) (sym (append-nil written)) h)
 
-pub says_more : (o p q : OutgoingView) (first second : List Numbered) → Says o first [] p → Says p second [] q → Says o (first ++ second) [] q
+pub says_more : (o p q : OutgoingView) (first second : List Numbered) → SaysMessages o first [] p → SaysMessages p second [] q → SaysMessages o (first ++ second) [] q
 says_more o p q first second f g front key before written h =
     let two = g front key (before ++ first) (written ++ []) (f front key before written h) in
     subst (λ (ms : List Numbered). HasSaid front key ms (written ++ []) q) (append_assoc before first second)
     (subst (λ (xs : List ℕ). HasSaid front key ((before ++ first) ++ second) xs q) (append-nil (written ++ [])) two)
 
 -- one message more
-pub says_one : (o p : OutgoingView) (m : Numbered) → p ≡ record o { plain = o.plain ++ message_text m } → Says o (m ∷ []) [] p
+pub says_one : (o p : OutgoingView) (m : Numbered) → p ≡ record o { plain = o.plain ++ message_text m } → SaysMessages o (m ∷ []) [] p
 says_one o p m e front key before written h =
     subst (HasSaid front key (before ++ m ∷ []) (written ++ [])) (sym e) (record {
       pieces = h.pieces;
@@ -115,7 +115,7 @@ says_one o p m e front key before written h =
 
 -- the next piece is sealed
 pub seals_one : (o p : OutgoingView) (n : ℕ) → length (take n o.plain) ≤ MOST_PIECE_BYTES → p.sealer ≡ record o.sealer { number = o.sealer.number + 1 } → p.plain ≡ drop n o.plain
-    → p.waits ≡ o.waits ++ frame o.sealer.key o.sealer.number (take n o.plain) → Says o [] [] p
+    → p.waits ≡ o.waits ++ frame o.sealer.key o.sealer.number (take n o.plain) → SaysMessages o [] [] p
 seals_one o p n short sealer plain waits front key before written h =
     let piece : List ℕ = take n o.plain in
     let key_is : o.sealer.key ≡ key = ap (λ (s : Sealer). s.key) h.sealer_is in
@@ -144,7 +144,7 @@ seals_one o p n short sealer plain waits front key before written h =
     subst (λ (ms : List Numbered). HasSaid front key ms (written ++ []) p) (sym (append-nil before)) (subst (λ (xs : List ℕ). HasSaid front key before xs p) (sym (append-nil written)) made)
 
 -- bytes that waited are written
-pub writes_some : (o p : OutgoingView) (n : ℕ) → p ≡ record o { waits = drop n o.waits } → Says o [] (take n o.waits) p
+pub writes_some : (o p : OutgoingView) (n : ℕ) → p ≡ record o { waits = drop n o.waits } → SaysMessages o [] (take n o.waits) p
 writes_some o p n e front key before written h =
     subst (λ (ms : List Numbered). HasSaid front key ms (written ++ take n o.waits) p) (sym (append-nil before)) (subst (HasSaid front key before (written ++ take n o.waits)) (sym e) (record {
       pieces = h.pieces;

@@ -24,7 +24,7 @@ IsSiteKey keys key = (key ≡ keys.first) ⊎ (keys.second ≡ Some key)
 
 -- What came is the hello of this member of the site, for a lane from this one, and then a tag that is made with a key of the
 -- site over both hellos. The keys of the connection are made with the same key.
-pub record IsAnswered (id : Identity) (peer : ℕ) (lane : LaneKind) (hello came : List ℕ) (g : Greeted) : Type 0 where
+pub record IsHelloAnswered (id : Identity) (peer : ℕ) (lane : LaneKind) (hello came : List ℕ) (g : Greeted) : Type 0 where
   pub reply : Hello
   pub reply_is : take HELLO_BYTES came ≡ hello_text reply
   pub is_for : IsForMember id reply

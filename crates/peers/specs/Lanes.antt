@@ -5,9 +5,9 @@ use Rattle.links.specs.Sending.{SendingView, IsNextToHandOut, with_said, with_ac
 use Rattle.links.specs.declared.message.TheConstants.{HEARTBEAT}
 use Rattle.links.specs.declared.receiving.Receiving.{Receiving}
 use Rattle.links.specs.Receiving.{Receives, on_accepted_connection, from_new_life}
-use Rattle.peers.specs.Ways.{HasHeard, HasSaid, Hears, Says}
+use Rattle.peers.specs.Ways.{HasHeard, HasSaid, HearsMessages, SaysMessages}
 use Rattle.peers.specs.Greeting.{GreetingView}
-use Rattle.peers.specs.Identity.{IsAnswered}
+use Rattle.peers.specs.Identity.{IsHelloAnswered}
 use Rattle.peers.specs.declared.hello.LaneKind.{LaneKind}
 use Rattle.peers.specs.declared.identity.Identity.{Identity}
 use Rattle.peers.specs.declared.greeting.Greeted.{Greeted}
@@ -23,9 +23,9 @@ use Rattle.peers.specs.declared.out_lane.OutStage.TheVariants.{Down, Connecting,
 -- ---- letters that go
 
 -- these letters were handed out, one after the other, each the next one
-abbrev pub HandsOut : SendingView → List Numbered → SendingView → Type 0
-HandsOut old [] new = new ≡ old
-HandsOut old (x ∷ xs) new = IsNextToHandOut old x × HandsOut (with_said x.0 old) xs new
+abbrev pub HandsOutLetters : SendingView → List Numbered → SendingView → Type 0
+HandsOutLetters old [] new = new ≡ old
+HandsOutLetters old (x ∷ xs) new = IsNextToHandOut old x × HandsOutLetters (with_said x.0 old) xs new
 
 -- what messages acknowledge is let go. A heartbeat, of number 0, acknowledges nothing
 abbrev pub acknowledged_by : List Numbered → SendingView → SendingView
@@ -59,15 +59,15 @@ ReceivesAll old (m ∷ messages) given new =
 -- ---- moments
 
 -- a moment that is so much later, in 64 bits
-abbrev pub later : ℕ → ℕ → ℕ
-later now time = min (now + time) (2 ^ 64 - 1)
+abbrev pub moment_after : ℕ → ℕ → ℕ
+moment_after now time = min (now + time) (2 ^ 64 - 1)
 
 -- when the lane is looked at again, whatever happens: each stage has such a moment
 abbrev pub deadline_of : OutStage → ℕ
 deadline_of (Down until) = until
 deadline_of (Connecting until) = until
 deadline_of (Greets until greeting waits) = until
-deadline_of (Open wire) = later wire.heard MOST_SILENCE
+deadline_of (Open wire) = moment_after wire.heard MOST_SILENCE
 
 abbrev pub IsDown : OutStage → Type 0
 IsDown (Down until) = ⊤
@@ -78,7 +78,7 @@ IsDown (Open wire) = ⊥
 -- The connection is lost: another one is made after a pause, and the pause after that is twice as long, up to a limit.
 -- The letters are as they were.
 pub record IsLost (now : ℕ) (old new : OutLane) : Type 0 where
-  pub stage : new.stage ≡ Down (later now old.pause.next)
+  pub stage : new.stage ≡ Down (moment_after now old.pause.next)
   pub pause : new.pause.next ≡ min (2 * old.pause.next) MOST_PAUSE
   pub sending : new.sending ≡ old.sending
 
@@ -96,10 +96,10 @@ IsOpen (Open wire) = ⊤
 
 -- The answer is whole with some of the bytes, and is that of the peer. Messages go both ways under the keys of the
 -- connection, behind the tag of this member. What is held is handed out again.
-pub record Opens (id : Identity) (g : GreetingView) (bytes : List ℕ) (old : SendingView) (new : OutLane) (wire : Wire) : Type 0 where
+pub record OpensLane (id : Identity) (g : GreetingView) (bytes : List ℕ) (old : SendingView) (new : OutLane) (wire : Wire) : Type 0 where
   pub count : ℕ
   pub greeted : Greeted
-  pub answered : IsAnswered id g.peer g.lane g.hello (g.came ++ take count bytes) greeted
+  pub answered : IsHelloAnswered id g.peer g.lane g.hello (g.came ++ take count bytes) greeted
   pub incoming : HasHeard MOMENT_BYTES greeted.keys.responder_key [] [] wire.incoming
   pub outgoing : HasSaid greeted.keys.initiator_tag greeted.keys.initiator_key [] [] wire.outgoing
   pub connected : IsConnected greeted.life old new.sending
@@ -109,7 +109,7 @@ pub record HearsOpen (bytes : List ℕ) (wire : Wire) (old : SendingView) (new :
   pub now : Wire
   pub stage : new.stage ≡ Open now
   pub messages : List Numbered
-  pub hears : Hears wire.incoming bytes messages now.incoming
+  pub hears : HearsMessages wire.incoming bytes messages now.incoming
   pub lets_go : LetsGo messages old new.sending
 
 -- Letters were handed out and said, each the next one, and then heartbeats.
@@ -118,16 +118,16 @@ pub record Fills (wire : Wire) (old : SendingView) (new : OutLane) : Type 0 wher
   pub stage : new.stage ≡ Open now
   pub letters : List Numbered
   pub beats : List Numbered
-  pub hands_out : HandsOut old letters new.sending
+  pub hands_out : HandsOutLetters old letters new.sending
   pub are_beats : All (λ (m : Numbered). m.0 ≡ HEARTBEAT) beats
-  pub says : Says wire.outgoing (letters ++ beats) [] now.outgoing
+  pub says : SaysMessages wire.outgoing (letters ++ beats) [] now.outgoing
 
 -- so many bytes were written
 pub record WritesOpen (wire : Wire) (n : ℕ) (new : OutLane) : Type 0 where
   pub now : Wire
   pub stage : new.stage ≡ Open now
   pub there : n ≤ length wire.outgoing.waits
-  pub says : Says wire.outgoing [] (take n wire.outgoing.waits) now.outgoing
+  pub says : SaysMessages wire.outgoing [] (take n wire.outgoing.waits) now.outgoing
 
 -- ---- the end to which letters go
 
@@ -161,7 +161,7 @@ pub record HearsLetters (bytes : List ℕ) (wire : Wire) (old : Receiving) (befo
   pub now : Wire
   pub stage : new.stage ≡ Accepted now
   pub messages : List Numbered
-  pub hears : Hears wire.incoming bytes messages now.incoming
+  pub hears : HearsMessages wire.incoming bytes messages now.incoming
   pub receives : ReceivesSome messages old before after new.receiving
 
 -- a heartbeat, or the acknowledgement of all letters that came
@@ -174,5 +174,5 @@ pub record AnswersOpen (wire : Wire) (old : Receiving) (new : InLane) : Type 0 w
   pub stage : new.stage ≡ Accepted now
   pub messages : List Numbered
   pub are_answers : All (IsAnswerIn old) messages
-  pub says : Says wire.outgoing messages [] now.outgoing
+  pub says : SaysMessages wire.outgoing messages [] now.outgoing
   pub receiving : new.receiving ≡ record old { is_due = new.receiving.is_due }

@@ -19,7 +19,7 @@ pub record TakesTag (old : StrangerView) (bytes : List ℕ) (n : ℕ) (new : Str
   pub new_is : new ≡ record old { tag = old.tag ++ take n bytes }
 
 -- The hello is answered by one with these bytes at random, and a tag behind it.
-pub record Answers (old : StrangerView) (random said : List ℕ) (new : StrangerView) : Type 0 where
+pub record AnswersHello (old : StrangerView) (random said : List ℕ) (new : StrangerView) : Type 0 where
   pub who : Admitted
   pub who_is : new.who ≡ Some who
   pub reply : Hello

@@ -26,8 +26,8 @@ abbrev pub HearsMore : ℕ → List ℕ → List ℕ → List Numbered → List 
 HearsMore most key all before old new i = (more : List Numbered) × (new ≡ old ++ more) × HasHeard most key all (before ++ more) i
 
 -- bytes came, and with them these messages, whatever came before
-abbrev pub Hears : IncomingView → List ℕ → List Numbered → IncomingView → Type 0
-Hears old bytes messages new = (most : ℕ) (key all : List ℕ) (before : List Numbered) → HasHeard most key all before old → HasHeard most key (all ++ bytes) (before ++ messages) new
+abbrev pub HearsMessages : IncomingView → List ℕ → List Numbered → IncomingView → Type 0
+HearsMessages old bytes messages new = (most : ℕ) (key all : List ℕ) (before : List Numbered) → HasHeard most key all before old → HasHeard most key (all ++ bytes) (before ++ messages) new
 
 -- ---- what goes
 
@@ -48,6 +48,6 @@ pub record HasSaid (front key : List ℕ) (messages : List Numbered) (written : 
   pub sealer_is : o.sealer ≡ record { key = key; number = length pieces }
 
 -- more messages are said and more bytes written, whatever was before
-abbrev pub Says : OutgoingView → List Numbered → List ℕ → OutgoingView → Type 0
-Says old messages bytes new =
+abbrev pub SaysMessages : OutgoingView → List Numbered → List ℕ → OutgoingView → Type 0
+SaysMessages old messages bytes new =
     (front key : List ℕ) (before : List Numbered) (written : List ℕ) → HasSaid front key before written old → HasSaid front key (before ++ messages) (written ++ bytes) new

@@ -2,7 +2,7 @@
 
 ghost use Rattle.std.specs.Prelude.{◌≡◌, ◌↔◌, ◌-◌, ◌++◌, ℕ, List, [], length, take, min, IsTrue, IfOk, IfErr, IfSome, IfNone, OnErr};
 ghost use Rattle.seals.specs.Keys.{session_keys};
-ghost use Rattle.peers.specs.Identity.{IsAnswered, IsSiteKey};
+ghost use Rattle.peers.specs.Identity.{IsHelloAnswered, IsSiteKey};
 ghost use Rattle.peers.specs.declared.greeting.TheConstants.{ANSWER_BYTES};
 
 use crate::fault::PeerFault;
@@ -123,7 +123,7 @@ impl Greeting {
     ///
     /// Stranger: it is not that of this peer for this lane, or its tag is not made with a key of the site.
     pub fn end(&self, id: &Identity) -> Result<Greeted, PeerFault>
-        ensures ok { IfOk result (IsAnswered id.now self.now.peer self.now.lane self.now.hello self.now.came) }
+        ensures ok { IfOk result (IsHelloAnswered id.now self.now.peer self.now.lane self.now.hello self.now.came) }
         ensures only { IfErr result (λ fault. fault ≡ PeerFault.Stranger) }
     {
         let Some((hello, tag)) = self.came.as_slice().split_at_checked(HELLO_BYTES) else {

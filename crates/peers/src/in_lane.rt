@@ -4,15 +4,15 @@ ghost use Rattle.std.specs.Prelude.{◌≡◌, ◌≤◌, ◌<◌, ◌+◌, ◌-
 ghost use Rattle.links.specs.Numbered.{Numbered};
 ghost use Rattle.links.specs.Receiving.{Receives};
 ghost use Rattle.links.specs.declared.message.TheConstants.{HEARTBEAT};
-ghost use Rattle.peers.specs.Ways.{Says};
-ghost use Rattle.peers.specs.Lanes.{IsAccepted, Admits, ReceivesSome, HearsLetters, AnswersOpen, given_list, letter_bytes, later};
+ghost use Rattle.peers.specs.Ways.{SaysMessages};
+ghost use Rattle.peers.specs.Lanes.{IsAccepted, Admits, ReceivesSome, HearsLetters, AnswersOpen, given_list, letter_bytes, moment_after};
 ghost use Rattle.peers.specs.declared.limits.TheConstants.{MOST_SILENCE, MOST_UNTAKEN};
 ghost use Rattle.peers.specs.declared.in_lane.InStage.TheVariants.{Away, Accepted};
 ghost use Rattle.peers.specs.declared.wire.Wire as wire;
 
 use crate::backlog::Backlog;
 use crate::fault::PeerFault;
-use crate::limits::MOST_UNTAKEN;
+use crate::limits::{MOMENT_BYTES, MOST_UNTAKEN};
 use crate::stranger::Admitted;
 use crate::wire::{WayKeys, Wire};
 use base::Text;
@@ -90,11 +90,11 @@ fn receive_all(
     Ok(())
 }
 
-/// The text of the last heartbeat, if there is one.
+/// The text of the last heartbeat, if there is one. A heartbeat with a longer text than that of a moment is not said back.
 fn last_beat(alloc: Global, messages: &[Message]) -> Result<Option<Text>, PeerFault> {
     let mut found = None;
     for message in messages {
-        if message.number() == HEARTBEAT {
+        if message.number() == HEARTBEAT && message.text().len() <= MOMENT_BYTES {
             found = Some(message);
         }
     }
@@ -196,8 +196,8 @@ impl InLane {
     pub fn tick(&mut self, now: u64) -> bool
         ensures receiving { self.new.receiving ≡ self.old.receiving }
         ensures away { self.old.stage ≡ Away → (result ≡ false) × (self.new ≡ self.old) }
-        ensures silent { (w : wire.Wire) → self.old.stage ≡ Accepted w → self.old.untaken < MOST_UNTAKEN → later w.heard MOST_SILENCE ≤ now → (result ≡ true) × (self.new.stage ≡ Away) }
-        ensures heard { (w : wire.Wire) → self.old.stage ≡ Accepted w → now < later w.heard MOST_SILENCE → result ≡ false }
+        ensures silent { (w : wire.Wire) → self.old.stage ≡ Accepted w → self.old.untaken < MOST_UNTAKEN → moment_after w.heard MOST_SILENCE ≤ now → (result ≡ true) × (self.new.stage ≡ Away) }
+        ensures heard { (w : wire.Wire) → self.old.stage ≡ Accepted w → now < moment_after w.heard MOST_SILENCE → result ≡ false }
     {
         let is_read = self.wants_reads();
         let InStage::Accepted { wire } = &mut self.stage else {
@@ -302,7 +302,7 @@ fn say_beat(
     wire: &mut Wire,
     echo: &mut Option<Text>,
 ) -> Result<(), PeerFault>
-    ensures { OnOk result ((beats : List Numbered) × All (λ (m : Numbered). m.0 ≡ HEARTBEAT) beats × Says wire.old.outgoing beats [] wire.new.outgoing) }
+    ensures { OnOk result ((beats : List Numbered) × All (λ (m : Numbered). m.0 ≡ HEARTBEAT) beats × SaysMessages wire.old.outgoing beats [] wire.new.outgoing) }
 {
     if let Some(text) = echo.take() {
         return wire.beat(alloc, now, &text);

@@ -54,7 +54,7 @@ pub use limits::{
 };
 pub use out_lane::{Act, OutLane, OutStage};
 pub use outgoing::Outgoing;
-pub use pause::Pause;
+pub use pause::RetryPause;
 pub use stranger::{Admitted, Stranger};
 pub use strangers::Strangers;
 pub use wire::{WayKeys, Wire};

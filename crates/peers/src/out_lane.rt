@@ -3,9 +3,9 @@
 ghost use Rattle.std.specs.Prelude.{ℕ, ◌≡◌, ◌≤◌, ◌<◌, ◌^◌, ◌↔◌, List, [], length, IsTrue, IfOk, OnOk, OnErr, Err};
 ghost use Rattle.links.specs.Numbered.{Numbered};
 ghost use Rattle.links.specs.Sending.{HasRoomFor, with_letter, new_sending};
-ghost use Rattle.peers.specs.Ways.{HasHeard, HasSaid, Says};
+ghost use Rattle.peers.specs.Ways.{HasHeard, HasSaid, SaysMessages};
 ghost use Rattle.peers.specs.Greeting.{GreetingView};
-ghost use Rattle.peers.specs.Lanes.{HandsOut, LetsGo, IsDown, IsOpen, IsLost, IsGreeting, Opens, HearsOpen, Fills, WritesOpen, acknowledged_by, deadline_of, later};
+ghost use Rattle.peers.specs.Lanes.{HandsOutLetters, LetsGo, IsDown, IsOpen, IsLost, IsGreeting, OpensLane, HearsOpen, Fills, WritesOpen, acknowledged_by, deadline_of, moment_after};
 ghost use Rattle.peers.specs.declared.limits.TheConstants.{GREETING_LIMIT, LEAST_PAUSE, MOMENT_BYTES};
 ghost use Rattle.peers.specs.declared.out_lane.Act.TheVariants.{Rest, Connect, Close};
 ghost use Rattle.peers.specs.declared.out_lane.OutStage.TheVariants.{Down, Connecting, Greets, Open};
@@ -18,7 +18,7 @@ use crate::hello::LaneKind;
 use crate::identity::Identity;
 use crate::limits::{GREETING_LIMIT, MOMENT_BYTES};
 use crate::outgoing::Outgoing;
-use crate::pause::Pause;
+use crate::pause::RetryPause;
 use crate::wire::{WayKeys, Wire};
 use base::Text;
 use links::{HEARTBEAT, LaneBounds, LinkFault, Message, Sending};
@@ -82,7 +82,7 @@ pub enum Act {
 pub struct OutLane {
     pub sending: Sending,
     pub stage: OutStage,
-    pub pause: Pause,
+    pub pause: RetryPause,
     /// The milliseconds from a heartbeat to its echo, of the last one.
     pub round_trip: Option<u64>,
     /// How many connections were open. It stays at 2^64 - 1.
@@ -118,8 +118,8 @@ fn hand_out_all(
     sending: &mut Sending,
     outgoing: &mut Outgoing,
 ) -> Result<(), PeerFault>
-    ensures ok { OnOk result ((letters : List Numbered) × HandsOut sending.old letters sending.new × Says outgoing.old letters [] outgoing.new) }
-    ensures err { OnErr result ((letters : List Numbered) × HandsOut sending.old letters sending.new) }
+    ensures ok { OnOk result ((letters : List Numbered) × HandsOutLetters sending.old letters sending.new × SaysMessages outgoing.old letters [] outgoing.new) }
+    ensures err { OnErr result ((letters : List Numbered) × HandsOutLetters sending.old letters sending.new) }
 {
     for _ in 0..MOST_LETTERS {
         if outgoing.is_full() {
@@ -169,7 +169,7 @@ impl OutLane {
         OutLane {
             sending: Sending::new(alloc, bounds),
             stage: OutStage::Down { until: now },
-            pause: Pause::new(),
+            pause: RetryPause::new(),
             round_trip: None,
             opened: 0,
         }
@@ -236,7 +236,7 @@ impl OutLane {
     /// is lost. After each call the lane has a moment that is still to come, at which it is to be called again.
     pub fn tick(&mut self, now: u64) -> Act
         ensures rests { now < deadline_of self.old.stage → (result ≡ Rest) × (self.new ≡ self.old) }
-        ensures connects { deadline_of self.old.stage ≤ now → IsDown self.old.stage → (result ≡ Connect) × (self.new ≡ record self.old { stage = Connecting (later now GREETING_LIMIT) }) }
+        ensures connects { deadline_of self.old.stage ≤ now → IsDown self.old.stage → (result ≡ Connect) × (self.new ≡ record self.old { stage = Connecting (moment_after now GREETING_LIMIT) }) }
         ensures closes { deadline_of self.old.stage ≤ now → (IsDown self.old.stage → ⊥) → (result ≡ Close) × IsLost now self.old self.new }
         ensures remembered { now < 2 ^ 63 → now < deadline_of self.new.stage }
     {
@@ -273,7 +273,7 @@ impl OutLane {
     ) -> Result<(), PeerFault>
         ensures sending { self.new.sending ≡ self.old.sending }
         ensures pause { self.new.pause ≡ self.old.pause }
-        ensures greets { OnOk result (IsGreeting peer lane hello.items (later now GREETING_LIMIT) self.new.stage) }
+        ensures greets { OnOk result (IsGreeting peer lane hello.items (moment_after now GREETING_LIMIT) self.new.stage) }
         ensures err { OnErr result (self.new ≡ self.old) }
     {
         let mut waits = Backlog::new(alloc);
@@ -296,7 +296,7 @@ impl OutLane {
         bytes: &[u8],
     ) -> Result<usize, PeerFault>
         ensures held { self.new.sending.held ≡ self.old.sending.held }
-        ensures opens { (until : ℕ) (g : GreetingView) (waits : List ℕ) (w : wire.Wire) → self.old.stage ≡ Greets until g waits → self.new.stage ≡ Open w → Opens id.now g bytes.now self.old.sending self.new w }
+        ensures opens { (until : ℕ) (g : GreetingView) (waits : List ℕ) (w : wire.Wire) → self.old.stage ≡ Greets until g waits → self.new.stage ≡ Open w → OpensLane id.now g bytes.now self.old.sending self.new w }
         ensures count { IfOk result (λ n. n ≤ length bytes.now) }
     {
         let OutStage::Greets { greeting, .. } = &mut self.stage else {
@@ -310,7 +310,7 @@ impl OutLane {
         let wire = opened_wire(alloc, &greeted, now)?;
         self.sending.connect(greeted.life)?;
         self.stage = OutStage::Open { wire };
-        self.pause = Pause::new();
+        self.pause = RetryPause::new();
         self.opened = self.opened.saturating_add(1);
         Ok(count)
     }
@@ -345,7 +345,7 @@ impl OutLane {
     ) -> Result<usize, PeerFault>
         ensures open { (w : wire.Wire) → self.old.stage ≡ Open w → HearsOpen bytes.now w self.old.sending self.new }
         ensures held { (IsOpen self.old.stage → ⊥) → self.new.sending.held ≡ self.old.sending.held }
-        ensures opens { (until : ℕ) (g : GreetingView) (waits : List ℕ) (w : wire.Wire) → self.old.stage ≡ Greets until g waits → self.new.stage ≡ Open w → Opens id.now g bytes.now self.old.sending self.new w }
+        ensures opens { (until : ℕ) (g : GreetingView) (waits : List ℕ) (w : wire.Wire) → self.old.stage ≡ Greets until g waits → self.new.stage ≡ Open w → OpensLane id.now g bytes.now self.old.sending self.new w }
         ensures count { IfOk result (λ n. n ≤ length bytes.now) }
     {
         if self.is_open() {

@@ -2,7 +2,7 @@
 
 ghost use Rattle.std.specs.Prelude.{◌≡◌, ◌≤◌, ◌<◌, ◌-◌, ◌↔◌, [], ◌∷◌, length, take, IsTrue, IfOk, OnOk, OnErr, MatchResult};
 ghost use Rattle.std.specs.Io.KnownBytes.{Appends, Keeps};
-ghost use Rattle.peers.specs.Ways.{HasSaid, Says};
+ghost use Rattle.peers.specs.Ways.{HasSaid, SaysMessages};
 ghost use Rattle.peers.specs.declared.limits.TheConstants.{MOST_COLLECTED};
 ghost use Rattle.seals.specs.declared.frame.TheConstants.{MOST_PIECE_BYTES};
 
@@ -77,7 +77,7 @@ impl Outgoing {
     ///
     /// Message: the text has 4 GiB or more. NoMemory.
     pub fn say(&mut self, alloc: Global, number: u64, text: &Text) -> Result<(), PeerFault>
-        ensures said { OnOk result (Says self.old ((number, text.now) ∷ []) [] self.new) }
+        ensures said { OnOk result (SaysMessages self.old ((number, text.now) ∷ []) [] self.new) }
         ensures waits { OnOk result (self.new.waits ≡ self.old.waits) }
     {
         let bytes = to_bytes(alloc, number, text)?;
@@ -87,7 +87,7 @@ impl Outgoing {
 
     /// Seals the next piece.
     fn seal_next(&mut self, alloc: Global) -> Result<(), PeerFault>
-        ensures sealed { OnOk result (Says self.old [] [] self.new) }
+        ensures sealed { OnOk result (SaysMessages self.old [] [] self.new) }
         ensures plain { OnOk result (length self.new.plain ≡ length self.old.plain - MOST_PIECE_BYTES) }
         ensures more { OnOk result (length self.old.waits < length self.new.waits) }
     {
@@ -101,7 +101,7 @@ impl Outgoing {
 
     /// Seals some more pieces, if there are some.
     fn seal_on(&mut self, alloc: Global) -> Result<(), PeerFault>
-        ensures sealed { OnOk result (Says self.old [] [] self.new) }
+        ensures sealed { OnOk result (SaysMessages self.old [] [] self.new) }
         ensures more { OnOk result (length self.old.waits ≤ length self.new.waits) }
     {
         for _ in 1..MOST_PIECES {
@@ -117,7 +117,7 @@ impl Outgoing {
     ///
     /// Seal: no number is left for a piece. NoMemory.
     pub fn seal(&mut self, alloc: Global) -> Result<(), PeerFault>
-        ensures sealed { OnOk result (Says self.old [] [] self.new) }
+        ensures sealed { OnOk result (SaysMessages self.old [] [] self.new) }
         ensures some { OnOk result (length self.new.waits ≡ 0 → self.new.plain ≡ []) }
     {
         if 0 < self.waits.len() || self.plain.is_empty() {
@@ -130,7 +130,7 @@ impl Outgoing {
     /// One write of what is to be written next, at most 65,536 bytes. Those that were taken are written.
     pub fn write<W: Write>(&mut self, to: &mut W) -> io::Result<usize>
         ensures count { IfOk result (λ n. n ≤ length self.old.waits) }
-        ensures said { IfOk result (λ n. Says self.old [] (take n self.old.waits) self.new) }
+        ensures said { IfOk result (λ n. SaysMessages self.old [] (take n self.old.waits) self.new) }
         ensures err { OnErr result (self.new ≡ self.old) }
         ensures bytes { MatchResult result (λ n. Appends (W.contents to.old) (W.contents to.new) (take n self.old.waits)) (λ _. Keeps (W.contents to.old) (W.contents to.new)) }
     {

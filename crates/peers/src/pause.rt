@@ -7,18 +7,18 @@ use crate::limits::{LEAST_PAUSE, MOST_PAUSE};
 
 /// The pause before the next connection, in milliseconds. It doubles with each that fails, up to two seconds.
 #[derive(Clone, Copy, Debug, PartialEq, Eq)]
-pub struct Pause {
+pub struct RetryPause {
     next: u64,
     ghost least: { LEAST_PAUSE ≤ next },
     ghost most: { next ≤ MOST_PAUSE },
 }
 
-impl Pause {
+impl RetryPause {
     /// No connection has failed.
-    pub fn new() -> Pause
+    pub fn new() -> RetryPause
         ensures { result.next ≡ LEAST_PAUSE }
     {
-        Pause { next: LEAST_PAUSE }
+        RetryPause { next: LEAST_PAUSE }
     }
 
     /// A connection has failed: how long to wait.
@@ -29,7 +29,7 @@ impl Pause {
         ensures most { result ≤ MOST_PAUSE }
     {
         let pause = self.next;
-        *self = Pause {
+        *self = RetryPause {
             next: (2 * pause).min(MOST_PAUSE),
         };
         pause

@@ -2,7 +2,7 @@
 
 ghost use Rattle.std.specs.Prelude.{◌≡◌, ◌≢◌, ◌≤◌, ◌<◌, ◌-◌, ◌++◌, ◌⊎◌, [], length, take, min, None, Some, IfOk, IfErr, IfSome, OnErr};
 ghost use Rattle.peers.specs.Greeting.{IsAdmitted};
-ghost use Rattle.peers.specs.Stranger.{TakesHello, TakesTag, Answers};
+ghost use Rattle.peers.specs.Stranger.{TakesHello, TakesTag, AnswersHello};
 ghost use Rattle.peers.specs.declared.stranger.Admitted.{Admitted};
 ghost use Rattle.peers.specs.declared.hello.TheConstants.{HELLO_BYTES};
 ghost use Rattle.peers.specs.declared.greeting.TheConstants.{TAG_BYTES};
@@ -120,7 +120,7 @@ impl Stranger {
         alloc: Global,
         random: [u8; RANDOM_BYTES],
     ) -> Result<Option<Vec<u8>>, PeerFault>
-        ensures some { IfOk result (λ said. IfSome said (λ bytes. Answers self.old random bytes.items self.new)) }
+        ensures some { IfOk result (λ said. IfSome said (λ bytes. AnswersHello self.old random bytes.items self.new)) }
         ensures none { IfOk result (λ said. said ≡ None → (self.new ≡ self.old) × ((length self.old.hello < HELLO_BYTES) ⊎ (self.old.who ≢ None))) }
         ensures only { IfErr result (λ fault. (fault ≡ PeerFault.Stranger) ⊎ (fault ≡ PeerFault.NoMemory)) }
     {

@@ -1,7 +1,7 @@
 //! The connections that were accepted and whose hellos are not over.
 
 ghost use Rattle.std.specs.Prelude.{◌≡◌, ◌≢◌, ◌<◌, ◌≤◌, length, All, None, Some, false, IsTrue, IfSome, IfNone, IfOk, slice_get, slice_set};
-ghost use Rattle.peers.specs.Strangers.{Comes, IsInTime, IsLate, IsLateAt};
+ghost use Rattle.peers.specs.Strangers.{Comes, IsStrangerInTime, IsLate, IsLateAt};
 
 use crate::identity::Identity;
 use crate::limits::{GREETING_LIMIT, MOST_STRANGERS};
@@ -83,7 +83,7 @@ impl Strangers {
     /// The place of one whose time is over at this moment, if there is one.
     pub fn late(&self, now: u64) -> Option<usize>
         ensures some { IfSome result (λ at. IsLateAt now self.now at) }
-        ensures none { IfNone result (All (IsInTime now) self.now) }
+        ensures none { IfNone result (All (IsStrangerInTime now) self.now) }
     {
         self.all.iter().position(|stranger| is_late(stranger, now))
     }
@@ -105,7 +105,7 @@ impl Strangers {
 /// Whether its time is over.
 fn is_late(stranger: &Option<Stranger>, now: u64) -> bool
     ensures late { IsTrue result → IsLate now stranger.now }
-    ensures in_time { result ≡ false → IsInTime now stranger.now }
+    ensures in_time { result ≡ false → IsStrangerInTime now stranger.now }
 {
     match stranger {
         Some(stranger) => stranger.until() <= now,

@@ -1,8 +1,8 @@
 use Rattle.std.proofs.Common.{ℕ, List, ◌++◌, ◌∷◌, [], refl, subst, sym, ap}
 use Rattle.links.specs.Numbered.{Numbered}
 use Rattle.links.specs.Sending.{SendingView}
-use Rattle.peers.specs.Ways.{Says}
-use Rattle.peers.specs.Lanes.{HandsOut}
+use Rattle.peers.specs.Ways.{SaysMessages}
+use Rattle.peers.specs.Lanes.{HandsOutLetters}
 use Rattle.peers.proofs.WayLemmas.{says_nothing, says_more}
 use Rattle.peers.proofs.LaneLemmas.{hands_out_more}
 use Rattle.peers.proofs.out_lane.hand_out_all.Goals as goal

@@ -1,8 +1,8 @@
 use Rattle.std.proofs.Common.{List, []}
 use Rattle.links.specs.Numbered.{Numbered}
-use Rattle.peers.specs.Ways.{Says}
-use Rattle.peers.specs.Lanes.{HandsOut}
+use Rattle.peers.specs.Ways.{SaysMessages}
+use Rattle.peers.specs.Lanes.{HandsOutLetters}
 use Rattle.peers.proofs.out_lane.hand_out_all.Given as goal
 
 abbrev pub invariant-loop : goal.invariant-loop
-invariant-loop l = (letters : List Numbered) × HandsOut l.fn.sending letters l.sending × Says l.fn.outgoing letters [] l.outgoing
+invariant-loop l = (letters : List Numbered) × HandsOutLetters l.fn.sending letters l.sending × SaysMessages l.fn.outgoing letters [] l.outgoing

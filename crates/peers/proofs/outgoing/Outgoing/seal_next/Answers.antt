@@ -2,7 +2,7 @@ use Rattle.std.proofs.Common.{◌≡◌, ◌≤◌, ◌<◌, ◌++◌, ℕ, List
 use Rattle.std.proofs.lemmas.List.{length-take, length-append}
 use Rattle.seals.specs.declared.frame.TheConstants.{MOST_PIECE_BYTES}
 use Rattle.seals.specs.Frame.{frame}
-use Rattle.peers.specs.Ways.{OutgoingView, Says}
+use Rattle.peers.specs.Ways.{OutgoingView, SaysMessages}
 use Rattle.peers.proofs.WayLemmas.{seals_one, frame_some}
 use Rattle.peers.proofs.outgoing.Outgoing.seal_next.Goals as goal
 
@@ -13,7 +13,7 @@ returns-clause-sealed c =
     let old : OutgoingView = record { sealer = inside.sealer; plain = inside.plain; waits = inside.waits } in
     let new : OutgoingView = record { sealer = c.seal.new.self; plain = c.pass.new.self; waits = c.push.new.self } in
     let short : length (take n inside.plain) ≤ MOST_PIECE_BYTES = omega (arith, length-take n inside.plain, c.min-count.ensures) in
-    subst (λ (o : OutgoingView). Says o [] [] new) c.self.view_is
+    subst (λ (o : OutgoingView). SaysMessages o [] [] new) c.self.view_is
     (seals_one old new n short c.in_ok-frame.ensures.next c.pass.ensures
     (c.in_ok-push.ensures.ok ∙ ap (λ xs. inside.waits ++ xs) (c.in_ok-frame.ensures.ok ∙ ap (frame inside.sealer.key inside.sealer.number) c.front-piece.ensures)))
 
