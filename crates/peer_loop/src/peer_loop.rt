@@ -100,6 +100,7 @@ impl PeerLoop {
         poll.registry()
             .register(&mut listener, LISTENER, Interest::READABLE)?;
         let peers = other_members(alloc, setup)?;
+        let lives = setup.lives.as_slice();
         let lanes = peers.len().saturating_mul(2);
         let places = lanes.saturating_mul(2).saturating_add(MOST_STRANGERS);
         Ok(PeerLoop {
@@ -109,8 +110,8 @@ impl PeerLoop {
             listener,
             id: setup.id,
             bulk: setup.bulk,
-            out_lanes: lanes_out(alloc, peers.as_slice(), setup.bulk)?,
-            in_lanes: lanes_in(alloc, peers.as_slice(), setup.lives.as_slice())?,
+            out_lanes: lanes_out(alloc, peers.as_slice(), lives, setup.bulk)?,
+            in_lanes: lanes_in(alloc, peers.as_slice(), lives)?,
             peers,
             strangers: Strangers::new(alloc)?,
             waits: no_waits(alloc)?,

@@ -1,5 +1,9 @@
 //! The places of connections: a number for each, which is the token of its events.
 
+ghost use Rattle.std.specs.Prelude.{◌≡◌, ◌+◌, ◌-◌, ◌*◌, ◌^◌, ◌%◌, min};
+ghost use Rattle.peers.specs.Hello.{lane_byte};
+ghost use Rattle.peer_loop.specs.Places.{IsAmongLanes, token_number};
+
 use peers::LaneKind;
 
 /// What a connection is for.
@@ -14,7 +18,9 @@ pub enum ConnectionPlace {
 }
 
 /// The index of a lane of the peer at this index.
-pub fn lane_index(peer: usize, lane: LaneKind) -> usize {
+pub fn lane_index(peer: usize, lane: LaneKind) -> usize
+    ensures { result ≡ min (2 * peer + lane_byte lane) (2 ^ 64 - 1) }
+{
     let first = peer.saturating_mul(2);
     match lane {
         LaneKind::Quick => first,
@@ -23,7 +29,9 @@ pub fn lane_index(peer: usize, lane: LaneKind) -> usize {
 }
 
 /// The kind of the lane at this index.
-pub fn lane_at(index: usize) -> LaneKind {
+pub fn lane_at(index: usize) -> LaneKind
+    ensures { lane_byte result ≡ index % 2 }
+{
     if index % 2 == 0 {
         LaneKind::Quick
     } else {
@@ -32,7 +40,10 @@ pub fn lane_at(index: usize) -> LaneKind {
 }
 
 /// The place of this token, if there are so many lanes each way.
-pub fn place_of(token: usize, lanes: usize) -> ConnectionPlace {
+pub fn place_of(token: usize, lanes: usize) -> ConnectionPlace
+    ensures token { token_number lanes result ≡ token }
+    ensures lane { IsAmongLanes lanes result }
+{
     if token < lanes {
         return ConnectionPlace::Out(token);
     }
@@ -44,7 +55,9 @@ pub fn place_of(token: usize, lanes: usize) -> ConnectionPlace {
 }
 
 /// The token of a place, if there are so many lanes each way.
-pub fn token_of(place: ConnectionPlace, lanes: usize) -> usize {
+pub fn token_of(place: ConnectionPlace, lanes: usize) -> usize
+    ensures { result ≡ min (token_number lanes place) (2 ^ 64 - 1) }
+{
     match place {
         ConnectionPlace::Out(index) => index,
         ConnectionPlace::In(index) => lanes.saturating_add(index),

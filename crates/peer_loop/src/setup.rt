@@ -1,5 +1,9 @@
 //! What a member has to know of its site, and a loop with no connection.
 
+ghost use Rattle.std.specs.Prelude.{◌≡◌, ◌≢◌, ◌*◌, All, IfOk, length};
+ghost use Rattle.peers.specs.declared.limits.TheConstants.{MOST_STRANGERS};
+ghost use Rattle.peer_loop.specs.declared.setup.OtherMember.{OtherMember};
+
 use crate::socket::PeerSocket;
 use links::{LaneBounds, Message};
 use peers::{Backlog, Identity, InLane, MOST_STRANGERS, OutLane};
@@ -37,7 +41,9 @@ pub struct OtherMember {
 }
 
 /// The other members.
-pub fn other_members(alloc: Global, setup: &Setup) -> io::Result<Vec<OtherMember>> {
+pub fn other_members(alloc: Global, setup: &Setup) -> io::Result<Vec<OtherMember>>
+    ensures { IfOk result (λ peers. All (λ (p : OtherMember). p.id ≢ setup.now.id.me) peers.items) }
+{
     let mut peers = Vec::new(alloc);
     let mut id = 0u8;
     for address in &setup.addresses {
@@ -52,25 +58,36 @@ pub fn other_members(alloc: Global, setup: &Setup) -> io::Result<Vec<OtherMember
     Ok(peers)
 }
 
+/// The highest life of a member that was seen, and 0 if none was.
+fn life_of(lives: &[u64], member: u8) -> u64 {
+    lives.get(usize::from(member)).copied().unwrap_or(0)
+}
+
 /// The lanes to peers.
 pub fn lanes_out(
     alloc: Global,
     peers: &[OtherMember],
+    lives: &[u64],
     bulk: LaneBounds,
-) -> io::Result<Vec<OutLane>> {
+) -> io::Result<Vec<OutLane>>
+    ensures { IfOk result (λ lanes. length lanes.items ≡ 2 * length peers.now) }
+{
     let mut lanes = Vec::new(alloc);
-    for _ in peers {
-        lanes.push(OutLane::new(alloc, LaneBounds::QUICK, 0))?;
-        lanes.push(OutLane::new(alloc, bulk, 0))?;
+    for peer in peers {
+        let life = life_of(lives, peer.id);
+        lanes.push(OutLane::new(alloc, LaneBounds::QUICK, life, 0))?;
+        lanes.push(OutLane::new(alloc, bulk, life, 0))?;
     }
     Ok(lanes)
 }
 
 /// The lanes from peers.
-pub fn lanes_in(alloc: Global, peers: &[OtherMember], lives: &[u64]) -> io::Result<Vec<InLane>> {
+pub fn lanes_in(alloc: Global, peers: &[OtherMember], lives: &[u64]) -> io::Result<Vec<InLane>>
+    ensures { IfOk result (λ lanes. length lanes.items ≡ 2 * length peers.now) }
+{
     let mut lanes = Vec::new(alloc);
     for peer in peers {
-        let life = lives.get(usize::from(peer.id)).copied().unwrap_or(0);
+        let life = life_of(lives, peer.id);
         lanes.push(InLane::new(life))?;
         lanes.push(InLane::new(life))?;
     }
@@ -78,7 +95,9 @@ pub fn lanes_in(alloc: Global, peers: &[OtherMember], lives: &[u64]) -> io::Resu
 }
 
 /// So many places with no connection.
-pub fn no_sockets(alloc: Global, count: usize) -> io::Result<Vec<Option<PeerSocket>>> {
+pub fn no_sockets(alloc: Global, count: usize) -> io::Result<Vec<Option<PeerSocket>>>
+    ensures { IfOk result (λ sockets. length sockets.items ≡ count) }
+{
     let mut sockets = Vec::with_capacity(alloc, count)?;
     for _ in 0..count {
         sockets.push(None)?;
@@ -87,7 +106,9 @@ pub fn no_sockets(alloc: Global, count: usize) -> io::Result<Vec<Option<PeerSock
 }
 
 /// Nothing waits for any stranger.
-pub fn no_waits(alloc: Global) -> io::Result<Vec<Backlog>> {
+pub fn no_waits(alloc: Global) -> io::Result<Vec<Backlog>>
+    ensures { IfOk result (λ waits. length waits.items ≡ MOST_STRANGERS) }
+{
     let mut waits = Vec::with_capacity(alloc, MOST_STRANGERS)?;
     for _ in 0..MOST_STRANGERS {
         waits.push(Backlog::new(alloc))?;
@@ -96,7 +117,9 @@ pub fn no_waits(alloc: Global) -> io::Result<Vec<Backlog>> {
 }
 
 /// No letter came on any of so many lanes.
-pub fn no_letters(alloc: Global, count: usize) -> io::Result<Vec<Vec<Message>>> {
+pub fn no_letters(alloc: Global, count: usize) -> io::Result<Vec<Vec<Message>>>
+    ensures { IfOk result (λ letters. length letters.items ≡ count) }
+{
     let mut letters = Vec::with_capacity(alloc, count)?;
     for _ in 0..count {
         letters.push(Vec::new(alloc))?;

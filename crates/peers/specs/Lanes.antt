@@ -1,5 +1,5 @@
 -- The ends of a lane: what a call does to the letters of it, and when the lane is visited again.
-use Rattle.std.specs.Prelude.{◌≡◌, ⊤, ℕ, ◌+◌, ◌*◌, ◌-◌, ◌^◌, ◌<◌, ◌≤◌, ◌⊎◌, List, [], ◌∷◌, ◌++◌, length, take, min, sum_by, All, Option, None, Some}
+use Rattle.std.specs.Prelude.{◌≡◌, ⊤, false, if◌then◌else◌, ℕ, ◌+◌, ◌*◌, ◌-◌, ◌^◌, ◌<◌, ◌≤◌, ◌⊎◌, List, [], ◌∷◌, ◌++◌, length, take, min, sum_by, All, Option, None, Some}
 use Rattle.links.specs.Numbered.{Numbered}
 use Rattle.links.specs.Sending.{SendingView, IsNextToHandOut, with_said, with_acknowledged, on_new_connection, for_new_life}
 use Rattle.links.specs.declared.message.TheConstants.{HEARTBEAT}
@@ -11,7 +11,7 @@ use Rattle.peers.specs.Identity.{IsHelloAnswered}
 use Rattle.peers.specs.declared.hello.LaneKind.{LaneKind}
 use Rattle.peers.specs.declared.identity.Identity.{Identity}
 use Rattle.peers.specs.declared.greeting.Greeted.{Greeted}
-use Rattle.peers.specs.declared.limits.TheConstants.{MOST_PAUSE, MOST_SILENCE, MOMENT_BYTES}
+use Rattle.peers.specs.declared.limits.TheConstants.{BEAT, MOST_PAUSE, MOST_SILENCE, MOMENT_BYTES}
 use Rattle.peers.specs.declared.wire.Wire.{Wire}
 use Rattle.peers.specs.declared.stranger.Admitted.{Admitted}
 use Rattle.peers.specs.declared.in_lane.InLane.{InLane}
@@ -68,6 +68,13 @@ deadline_of (Down until) = until
 deadline_of (Connecting until) = until
 deadline_of (Greets until greeting waits) = until
 deadline_of (Open wire) = moment_after wire.heard MOST_SILENCE
+
+-- the same, or before it when a heartbeat is due
+abbrev pub wakes_of : OutStage → ℕ
+wakes_of (Down until) = until
+wakes_of (Connecting until) = until
+wakes_of (Greets until greeting waits) = until
+wakes_of (Open wire) = min (moment_after wire.beaten BEAT) (moment_after wire.heard MOST_SILENCE)
 
 abbrev pub IsDown : OutStage → Type 0
 IsDown (Down until) = ⊤
@@ -164,15 +171,16 @@ pub record HearsLetters (bytes : List ℕ) (wire : Wire) (old : Receiving) (befo
   pub hears : HearsMessages wire.incoming bytes messages now.incoming
   pub receives : ReceivesSome messages old before after new.receiving
 
--- a heartbeat, or the acknowledgement of all letters that came
-abbrev pub IsAnswerIn : Receiving → Numbered → Type 0
-IsAnswerIn r m = (m.0 ≡ HEARTBEAT) ⊎ (m.0 ≡ r.last)
+-- the acknowledgement that is due, if one is: all letters that came
+abbrev pub due_of : Receiving → List Numbered
+due_of r = if r.is_due then (r.last, []) ∷ [] else []
 
--- Nothing is said but acknowledgements of the letters that came, and heartbeats.
+-- Nothing is said but the acknowledgement that is due, which is due no longer then, and heartbeats.
 pub record AnswersOpen (wire : Wire) (old : Receiving) (new : InLane) : Type 0 where
   pub now : Wire
   pub stage : new.stage ≡ Accepted now
-  pub messages : List Numbered
-  pub are_answers : All (IsAnswerIn old) messages
-  pub says : SaysMessages wire.outgoing messages [] now.outgoing
-  pub receiving : new.receiving ≡ record old { is_due = new.receiving.is_due }
+  pub acknowledgements : List Numbered
+  pub beats : List Numbered
+  pub are_due : ((acknowledgements ≡ due_of old) × (new.receiving ≡ record old { is_due = false })) ⊎ ((acknowledgements ≡ []) × (new.receiving ≡ old))
+  pub are_beats : All (λ (m : Numbered). m.0 ≡ HEARTBEAT) beats
+  pub says : SaysMessages wire.outgoing (acknowledgements ++ beats) [] now.outgoing

@@ -4,15 +4,16 @@ ghost use Rattle.std.specs.Prelude.{◌≡◌, ◌≤◌, ◌<◌, ◌+◌, ◌-
 ghost use Rattle.links.specs.Numbered.{Numbered};
 ghost use Rattle.links.specs.Receiving.{Receives};
 ghost use Rattle.links.specs.declared.message.TheConstants.{HEARTBEAT};
-ghost use Rattle.peers.specs.Ways.{SaysMessages};
-ghost use Rattle.peers.specs.Lanes.{IsAccepted, Admits, ReceivesSome, HearsLetters, AnswersOpen, given_list, letter_bytes, moment_after};
-ghost use Rattle.peers.specs.declared.limits.TheConstants.{MOST_SILENCE, MOST_UNTAKEN};
+ghost use Rattle.peers.specs.Ways.{IsIdle, SaysMessages};
+ghost use Rattle.peers.specs.Lanes.{IsAccepted, Admits, ReceivesSome, HearsLetters, AnswersOpen, due_of, given_list, letter_bytes, moment_after};
+ghost use Rattle.peers.specs.declared.limits.TheConstants.{BEAT, MOST_SILENCE, MOST_UNTAKEN};
 ghost use Rattle.peers.specs.declared.in_lane.InStage.TheVariants.{Away, Accepted};
 ghost use Rattle.peers.specs.declared.wire.Wire as wire;
 
 use crate::backlog::Backlog;
 use crate::fault::PeerFault;
 use crate::limits::{MOMENT_BYTES, MOST_UNTAKEN};
+use crate::outgoing::Outgoing;
 use crate::stranger::Admitted;
 use crate::wire::{WayKeys, Wire};
 use base::Text;
@@ -262,15 +263,14 @@ impl InLane {
     pub fn fill(&mut self, alloc: Global, now: u64) -> Result<(), PeerFault>
         ensures last { self.new.receiving ≡ record self.old.receiving { is_due = self.new.receiving.is_due } }
         ensures answers { (w : wire.Wire) → self.old.stage ≡ Accepted w → OnOk result (AnswersOpen w self.old.receiving self.new) }
+        ensures due { (w : wire.Wire) → self.old.stage ≡ Accepted w → IsIdle w.outgoing → OnOk result (self.new.receiving.is_due ≡ false) }
         ensures untaken { self.new.untaken ≡ self.old.untaken }
     {
         let InStage::Accepted { wire } = &mut self.stage else {
             return Ok(());
         };
         if wire.outgoing.is_idle() {
-            if let Some(number) = self.receiving.acknowledgement() {
-                wire.outgoing.say(alloc, number, &Text::new(alloc))?;
-            }
+            say_acknowledgement(alloc, &mut self.receiving, &mut wire.outgoing)?;
             say_beat(alloc, now, wire, &mut self.echo)?;
         }
         wire.outgoing.seal(alloc)
@@ -295,6 +295,21 @@ impl InLane {
     }
 }
 
+/// Says the acknowledgement that is due, if one is. It is due no longer, whether it could be said or not.
+fn say_acknowledgement(
+    alloc: Global,
+    receiving: &mut Receiving,
+    outgoing: &mut Outgoing,
+) -> Result<(), PeerFault>
+    ensures receiving { receiving.new ≡ record receiving.old { is_due = false } }
+    ensures said { OnOk result (SaysMessages outgoing.old (due_of receiving.old) [] outgoing.new) }
+{
+    match receiving.acknowledgement() {
+        Some(number) => outgoing.say(alloc, number, &Text::new(alloc)),
+        None => Ok(()),
+    }
+}
+
 /// Says a heartbeat, if one is to be said back or one is due.
 fn say_beat(
     alloc: Global,
@@ -302,7 +317,8 @@ fn say_beat(
     wire: &mut Wire,
     echo: &mut Option<Text>,
 ) -> Result<(), PeerFault>
-    ensures { OnOk result ((beats : List Numbered) × All (λ (m : Numbered). m.0 ≡ HEARTBEAT) beats × SaysMessages wire.old.outgoing beats [] wire.new.outgoing) }
+    ensures said { OnOk result ((beats : List Numbered) × All (λ (m : Numbered). m.0 ≡ HEARTBEAT) beats × SaysMessages wire.old.outgoing beats [] wire.new.outgoing) }
+    ensures due { OnOk result (moment_after wire.old.beaten BEAT ≤ now → wire.new.beaten ≡ now) }
 {
     if let Some(text) = echo.take() {
         return wire.beat(alloc, now, &text);

@@ -1,7 +1,7 @@
 //! The lanes between the members of a site, as values without a socket or a thread: what each end of a lane does with bytes
 //! that come, and with moments that pass.
 //!
-//!     let mut lane = OutLane::new(alloc, LaneBounds::QUICK, now);    // at the sender, for one lane to one peer
+//!     let mut lane = OutLane::new(alloc, LaneBounds::QUICK, 0, now); // at the sender, for one lane to one peer
 //!     lane.push(text)?;                                              // the text of a letter
 //!     match lane.tick(now) { Act::Connect => .., Act::Close => .., Act::Rest => .. }
 //!     lane.greet(alloc, now, peer, LaneKind::Quick, hello)?;         // the connection is there

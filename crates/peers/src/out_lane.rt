@@ -1,15 +1,16 @@
 //! The end of a lane from which letters go. It makes the connections.
 
-ghost use Rattle.std.specs.Prelude.{ℕ, ◌≡◌, ◌≤◌, ◌<◌, ◌^◌, ◌↔◌, List, [], length, IsTrue, IfOk, OnOk, OnErr, Err};
+ghost use Rattle.std.specs.Prelude.{ℕ, ◌≡◌, ◌≤◌, ◌<◌, ◌^◌, ◌↔◌, All, List, [], length, IsTrue, IfOk, OnOk, OnErr, Err};
 ghost use Rattle.links.specs.Numbered.{Numbered};
-ghost use Rattle.links.specs.Sending.{HasRoomFor, with_letter, new_sending};
+ghost use Rattle.links.specs.Sending.{HasRoomFor, last_number, with_letter, new_sending};
 ghost use Rattle.peers.specs.Ways.{HasHeard, HasSaid, SaysMessages};
 ghost use Rattle.peers.specs.Greeting.{GreetingView};
-ghost use Rattle.peers.specs.Lanes.{HandsOutLetters, LetsGo, IsDown, IsOpen, IsLost, IsGreeting, OpensLane, HearsOpen, Fills, WritesOpen, acknowledged_by, deadline_of, moment_after};
-ghost use Rattle.peers.specs.declared.limits.TheConstants.{GREETING_LIMIT, LEAST_PAUSE, MOMENT_BYTES};
+ghost use Rattle.peers.specs.Lanes.{HandsOutLetters, LetsGo, IsDown, IsOpen, IsLost, IsGreeting, OpensLane, HearsOpen, Fills, WritesOpen, acknowledged_by, deadline_of, moment_after, wakes_of};
+ghost use Rattle.peers.specs.declared.limits.TheConstants.{BEAT, GREETING_LIMIT, LEAST_PAUSE, MOMENT_BYTES};
 ghost use Rattle.peers.specs.declared.out_lane.Act.TheVariants.{Rest, Connect, Close};
 ghost use Rattle.peers.specs.declared.out_lane.OutStage.TheVariants.{Down, Connecting, Greets, Open};
 ghost use Rattle.peers.specs.declared.wire.Wire as wire;
+ghost use Rattle.links.specs.declared.message.TheConstants.{HEARTBEAT};
 
 use crate::backlog::Backlog;
 use crate::fault::PeerFault;
@@ -119,6 +120,7 @@ fn hand_out_all(
     outgoing: &mut Outgoing,
 ) -> Result<(), PeerFault>
     ensures ok { OnOk result ((letters : List Numbered) × HandsOutLetters sending.old letters sending.new × SaysMessages outgoing.old letters [] outgoing.new) }
+    ensures all { OnOk result (length outgoing.new.plain ≡ 0 → sending.new.said ≡ last_number sending.new) }
     ensures err { OnErr result ((letters : List Numbered) × HandsOutLetters sending.old letters sending.new) }
 {
     for _ in 0..MOST_LETTERS {
@@ -159,15 +161,32 @@ fn text_of(alloc: Global, moment: u64) -> Result<Text, PeerFault> {
     Ok(text)
 }
 
+/// Says a heartbeat with this moment, if one is due.
+fn say_moment(alloc: Global, now: u64, wire: &mut Wire) -> Result<(), PeerFault>
+    ensures said { OnOk result ((beats : List Numbered) × All (λ (m : Numbered). m.0 ≡ HEARTBEAT) beats × SaysMessages wire.old.outgoing beats [] wire.new.outgoing) }
+    ensures due { OnOk result (moment_after wire.old.beaten BEAT ≤ now → wire.new.beaten ≡ now) }
+    ensures more { OnOk result (length wire.old.outgoing.plain ≤ length wire.new.outgoing.plain) }
+{
+    if !wire.is_beat_due(now) {
+        return Ok(());
+    }
+    let text = text_of(alloc, now)?;
+    wire.beat(alloc, now, &text)
+}
+
 impl OutLane {
-    /// A lane of these bounds. A connection is to be made at once, which is at this moment.
-    pub fn new(alloc: Global, bounds: LaneBounds, now: u64) -> OutLane
-        ensures sending { result.sending ≡ new_sending bounds }
+    /// A lane of these bounds. `life` is the highest life of the peer that was seen, and 0 if none was: no connection with a
+    /// lower one is opened. A connection is to be made at once, which is at this moment.
+    pub fn new(alloc: Global, bounds: LaneBounds, life: u64, now: u64) -> OutLane
+        ensures sending { result.sending ≡ record (new_sending bounds) { peer_life = life } }
         ensures stage { result.stage ≡ Down now }
         ensures pause { result.pause.next ≡ LEAST_PAUSE }
     {
+        let mut sending = Sending::new(alloc, bounds);
+        // No life is lower than that of which nothing was seen.
+        let _ = sending.connect(life);
         OutLane {
-            sending: Sending::new(alloc, bounds),
+            sending,
             stage: OutStage::Down { until: now },
             pause: RetryPause::new(),
             round_trip: None,
@@ -204,7 +223,8 @@ impl OutLane {
 
     /// The same, if a heartbeat is to be said before.
     pub fn wakes_at(&self) -> u64
-        ensures { result ≤ deadline_of self.now.stage }
+        ensures soon { result ≤ deadline_of self.now.stage }
+        ensures late { wakes_of self.now.stage ≤ result }
     {
         match &self.stage {
             OutStage::Open { wire } => wire.wakes_at(),
@@ -356,19 +376,19 @@ impl OutLane {
     }
 
     /// Hands out letters, if all that was said is written, and says a heartbeat if one is due. Then more can be written, if
-    /// there is something. After an error the connection is to be closed, and is lost.
+    /// there is something: if nothing is, all letters that are held were handed out. After an error the connection is to be
+    /// closed, and is lost.
     pub fn fill(&mut self, alloc: Global, now: u64) -> Result<(), PeerFault>
         ensures held { self.new.sending.held ≡ self.old.sending.held }
         ensures fills { (w : wire.Wire) → self.old.stage ≡ Open w → OnOk result (Fills w self.old.sending self.new) }
+        ensures all { (w : wire.Wire) → self.new.stage ≡ Open w → OnOk result (length w.outgoing.waits ≡ 0 → self.new.sending.said ≡ last_number self.new.sending) }
     {
         let OutStage::Open { wire } = &mut self.stage else {
             return Ok(());
         };
         if wire.outgoing.is_idle() {
             hand_out_all(alloc, &mut self.sending, &mut wire.outgoing)?;
-            if wire.is_beat_due(now) {
-                wire.beat(alloc, now, &text_of(alloc, now)?)?;
-            }
+            say_moment(alloc, now, wire)?;
         }
         wire.outgoing.seal(alloc)
     }

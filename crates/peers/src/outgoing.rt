@@ -2,7 +2,7 @@
 
 ghost use Rattle.std.specs.Prelude.{◌≡◌, ◌≤◌, ◌<◌, ◌-◌, ◌↔◌, [], ◌∷◌, length, take, IsTrue, IfOk, OnOk, OnErr, MatchResult};
 ghost use Rattle.std.specs.Io.KnownBytes.{Appends, Keeps};
-ghost use Rattle.peers.specs.Ways.{HasSaid, SaysMessages};
+ghost use Rattle.peers.specs.Ways.{HasSaid, IsIdle, SaysMessages};
 ghost use Rattle.peers.specs.declared.limits.TheConstants.{MOST_COLLECTED};
 ghost use Rattle.seals.specs.declared.frame.TheConstants.{MOST_PIECE_BYTES};
 
@@ -61,7 +61,7 @@ impl Outgoing {
 
     /// Whether all that was said is written.
     pub fn is_idle(&self) -> bool
-        ensures { IsTrue result ↔ ((self.now.plain ≡ []) × (self.now.waits ≡ [])) }
+        ensures { IsTrue result ↔ IsIdle self.now }
     {
         self.plain.is_empty() && self.waits.is_empty()
     }
@@ -79,6 +79,7 @@ impl Outgoing {
     pub fn say(&mut self, alloc: Global, number: u64, text: &Text) -> Result<(), PeerFault>
         ensures said { OnOk result (SaysMessages self.old ((number, text.now) ∷ []) [] self.new) }
         ensures waits { OnOk result (self.new.waits ≡ self.old.waits) }
+        ensures more { OnOk result (length self.old.plain < length self.new.plain) }
     {
         let bytes = to_bytes(alloc, number, text)?;
         self.plain.push(bytes)?;
@@ -113,12 +114,13 @@ impl Outgoing {
         Ok(())
     }
 
-    /// Seals the next pieces of what was said, if nothing waits to be written. After an error the connection is to be closed.
+    /// Seals the next pieces of what was said, if nothing waits to be written. So something waits then, but if all that was
+    /// said was written before. After an error the connection is to be closed.
     ///
     /// Seal: no number is left for a piece. NoMemory.
     pub fn seal(&mut self, alloc: Global) -> Result<(), PeerFault>
         ensures sealed { OnOk result (SaysMessages self.old [] [] self.new) }
-        ensures some { OnOk result (length self.new.waits ≡ 0 → self.new.plain ≡ []) }
+        ensures some { OnOk result (length self.new.waits ≡ 0 → IsIdle self.old) }
     {
         if 0 < self.waits.len() || self.plain.is_empty() {
             return Ok(());

@@ -1,6 +1,6 @@
 //! The connections that were accepted and whose hellos are not over.
 
-ghost use Rattle.std.specs.Prelude.{◌≡◌, ◌≢◌, ◌<◌, ◌≤◌, length, All, None, Some, false, IsTrue, IfSome, IfNone, IfOk, slice_get, slice_set};
+ghost use Rattle.std.specs.Prelude.{ℕ, ◌≡◌, ◌≢◌, ◌<◌, ◌≤◌, ◌^◌, ◌-◌, length, All, None, Some, false, IsTrue, IfSome, IfNone, IfOk, slice_get, slice_set};
 ghost use Rattle.peers.specs.Strangers.{Comes, IsStrangerInTime, IsLate, IsLateAt};
 
 use crate::identity::Identity;
@@ -90,7 +90,8 @@ impl Strangers {
 
     /// When the first of them is closed. 2^64 - 1: there is none.
     pub fn deadline(&self) -> u64
-        ensures { All (λ s. IfSome s (λ stranger. result ≤ stranger.until)) self.now }
+        ensures soon { All (λ s. IfSome s (λ stranger. result ≤ stranger.until)) self.now }
+        ensures late { (now : ℕ) → now < 2 ^ 64 - 1 → All (IsStrangerInTime now) self.now → now < result }
     {
         let mut first = u64::MAX;
         for stranger in &self.all {

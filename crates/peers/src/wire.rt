@@ -1,8 +1,8 @@
 //! A connection whose hellos are over.
 
-ghost use Rattle.std.specs.Prelude.{ℕ, ◌≡◌, ◌≤◌, ◌+◌, ◌^◌, ◌-◌, ◌++◌, ◌↔◌, List, [], ◌∷◌, min, IsTrue, OnOk};
+ghost use Rattle.std.specs.Prelude.{ℕ, ◌≡◌, ◌≤◌, ◌+◌, ◌^◌, ◌-◌, ◌++◌, ◌↔◌, ◌<◌, List, [], ◌∷◌, length, min, IsTrue, OnOk};
 ghost use Rattle.links.specs.Numbered.{Numbered};
-ghost use Rattle.peers.specs.Ways.{HasHeard, HasSaid, HearsMore, SaysMessages};
+ghost use Rattle.peers.specs.Ways.{HasHeard, HasSaid, HearsMore, IsIdle, SaysMessages};
 ghost use Rattle.peers.specs.declared.limits.TheConstants.{BEAT, MOST_SILENCE};
 ghost use Rattle.links.specs.declared.message.TheConstants.{HEARTBEAT};
 
@@ -84,7 +84,9 @@ impl Wire {
 
     /// When it has to be visited, though nothing comes and nothing can be written.
     pub fn wakes_at(&self) -> u64
-        ensures { result ≤ min (self.now.heard + MOST_SILENCE) (2 ^ 64 - 1) }
+        ensures soon { result ≤ min (self.now.heard + MOST_SILENCE) (2 ^ 64 - 1) }
+        ensures late { min (min (self.now.beaten + BEAT) (2 ^ 64 - 1)) (min (self.now.heard + MOST_SILENCE) (2 ^ 64 - 1)) ≤ result }
+        ensures idle { IsIdle self.now.outgoing → result ≤ min (self.now.beaten + BEAT) (2 ^ 64 - 1) }
     {
         if self.outgoing.is_idle() {
             self.beats_at().min(self.deadline())
@@ -113,6 +115,7 @@ impl Wire {
     pub fn beat(&mut self, alloc: Global, now: u64, text: &Text) -> Result<(), PeerFault>
         ensures said { OnOk result (SaysMessages self.old.outgoing ((HEARTBEAT, text.now) ∷ []) [] self.new.outgoing) }
         ensures others { OnOk result (self.new ≡ record self.old { outgoing = self.new.outgoing; beaten = now }) }
+        ensures more { OnOk result (length self.old.outgoing.plain < length self.new.outgoing.plain) }
     {
         self.beaten = now;
         self.outgoing.say(alloc, HEARTBEAT, text)

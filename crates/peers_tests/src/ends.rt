@@ -82,7 +82,7 @@ impl Sender {
     pub fn new(alloc: Global, id: Identity) -> Sender {
         Sender {
             id,
-            lane: OutLane::new(alloc, LaneBounds::QUICK, 0),
+            lane: OutLane::new(alloc, LaneBounds::QUICK, 0, 0),
         }
     }
 

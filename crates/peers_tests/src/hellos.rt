@@ -1,7 +1,8 @@
 //! The bytes of hellos, and who is let in.
 
 use crate::ends::{Ends, KEYS, member, random_of};
-use peers::{HELLO_BYTES, Hello, Identity, LaneKind, SiteKeys, Strangers};
+use links::LaneBounds;
+use peers::{HELLO_BYTES, Hello, Identity, LaneKind, OutLane, SiteKeys, Strangers};
 use std::alloc::Global;
 
 /// A hello by hand.
@@ -136,6 +137,19 @@ fn old_lives_are_refused(alloc: Global) -> Option<bool> {
 #[test]
 fn an_old_life_is_refused(rt: HostRuntime) {
     assert!(rt; old_lives_are_refused(rt.alloc()) == Some(true));
+}
+
+/// Whether a sender that saw life 3 of the receiver opens its lane to one of this life.
+fn opens_to(alloc: Global, life: u64) -> Option<bool> {
+    let mut ends = Ends::new(alloc, member(0, 1, KEYS), member(1, life, KEYS));
+    ends.sender.lane = OutLane::new(alloc, LaneBounds::QUICK, 3, 0);
+    ends.open(alloc)
+}
+
+#[test]
+fn a_receiver_of_an_old_life_is_refused(rt: HostRuntime) {
+    assert!(rt; opens_to(rt.alloc(), 2) == Some(false));
+    assert!(rt; opens_to(rt.alloc(), 3) == Some(true));
 }
 
 /// What is recorded of a connection and sent once more lets nobody in.

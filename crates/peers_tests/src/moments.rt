@@ -16,7 +16,7 @@ fn is_pause(lane: &mut OutLane, now: u64, pause: u64) -> bool {
 
 #[test]
 fn pauses_double_up_to_two_seconds(rt: HostRuntime) {
-    let mut lane = OutLane::new(rt.alloc(), LaneBounds::QUICK, 5);
+    let mut lane = OutLane::new(rt.alloc(), LaneBounds::QUICK, 0, 5);
     assert!(rt; lane.tick(4) == Act::Rest && lane.tick(5) == Act::Connect);
     for pause in [100u64, 200, 400, 800, 1600, 2000, 2000] {
         assert!(rt; is_pause(&mut lane, 1_000, pause), "{pause}");
@@ -25,7 +25,7 @@ fn pauses_double_up_to_two_seconds(rt: HostRuntime) {
 
 #[test]
 fn a_connection_that_is_not_made_is_given_up(rt: HostRuntime) {
-    let mut lane = OutLane::new(rt.alloc(), LaneBounds::QUICK, 0);
+    let mut lane = OutLane::new(rt.alloc(), LaneBounds::QUICK, 0, 0);
     assert!(rt; lane.tick(0) == Act::Connect && lane.tick(4_999) == Act::Rest);
     assert!(rt; lane.tick(5_000) == Act::Close && lane.deadline() == 5_100);
 }
@@ -84,7 +84,7 @@ fn a_lane_that_is_not_read_stays_open(rt: HostRuntime) {
 fn are_figures(alloc: Global) -> Option<bool> {
     let mut ends = Ends::new(alloc, member(0, 4, KEYS), member(1, 1, KEYS));
     let opens = ends.open(alloc)?;
-    let mut bulk = OutLane::new(alloc, LaneBounds::BULK, 0);
+    let mut bulk = OutLane::new(alloc, LaneBounds::BULK, 0, 0);
     for _ in 0..3 {
         bulk.push(text_of(alloc, 1, 1)?).ok()?;
     }
