@@ -172,8 +172,8 @@ pub record HearsLetters (bytes : List ℕ) (wire : Wire) (old : Receiving) (befo
   pub receives : ReceivesSome messages old before after new.receiving
 
 -- the acknowledgement that is due, if one is: all letters that came
-abbrev pub due_of : Receiving → List Numbered
-due_of r = if r.is_due then (r.last, []) ∷ [] else []
+abbrev pub due_acknowledgement : Receiving → List Numbered
+due_acknowledgement r = if r.is_due then (r.last, []) ∷ [] else []
 
 -- Nothing is said but the acknowledgement that is due, which is due no longer then, and heartbeats.
 pub record AnswersOpen (wire : Wire) (old : Receiving) (new : InLane) : Type 0 where
@@ -181,6 +181,6 @@ pub record AnswersOpen (wire : Wire) (old : Receiving) (new : InLane) : Type 0 w
   pub stage : new.stage ≡ Accepted now
   pub acknowledgements : List Numbered
   pub beats : List Numbered
-  pub are_due : ((acknowledgements ≡ due_of old) × (new.receiving ≡ record old { is_due = false })) ⊎ ((acknowledgements ≡ []) × (new.receiving ≡ old))
+  pub are_due : ((acknowledgements ≡ due_acknowledgement old) × (new.receiving ≡ record old { is_due = false })) ⊎ ((acknowledgements ≡ []) × (new.receiving ≡ old))
   pub are_beats : All (λ (m : Numbered). m.0 ≡ HEARTBEAT) beats
   pub says : SaysMessages wire.outgoing (acknowledgements ++ beats) [] now.outgoing
