@@ -39,8 +39,8 @@ pub record OutgoingView : Type 0 where
   pub waits : List ℕ
 
 -- all that was said is written
-abbrev pub IsWritten : OutgoingView → Type 0
-IsWritten o = (o.plain ≡ []) × (o.waits ≡ [])
+abbrev pub IsAllWritten : OutgoingView → Type 0
+IsAllWritten o = (o.plain ≡ []) × (o.waits ≡ [])
 
 -- These messages were said and these bytes written. What is written and what waits are some bytes in front, and then sealed
 -- pieces of the messages; their other bytes are still to be sealed.

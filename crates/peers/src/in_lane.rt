@@ -4,7 +4,7 @@ ghost use Rattle.std.specs.Prelude.{◌≡◌, ◌≤◌, ◌<◌, ◌+◌, ◌-
 ghost use Rattle.links.specs.Numbered.{Numbered};
 ghost use Rattle.links.specs.Receiving.{Receives};
 ghost use Rattle.links.specs.declared.message.TheConstants.{HEARTBEAT};
-ghost use Rattle.peers.specs.Ways.{IsWritten, SaysMessages};
+ghost use Rattle.peers.specs.Ways.{IsAllWritten, SaysMessages};
 ghost use Rattle.peers.specs.Lanes.{IsAccepted, Admits, ReceivesSome, HearsLetters, AnswersOpen, due_acknowledgement, given_list, letter_bytes, moment_after};
 ghost use Rattle.peers.specs.declared.limits.TheConstants.{BEAT, MOST_SILENCE, MOST_UNTAKEN};
 ghost use Rattle.peers.specs.declared.in_lane.InStage.TheVariants.{Away, Accepted};
@@ -263,7 +263,7 @@ impl InLane {
     pub fn fill(&mut self, alloc: Global, now: u64) -> Result<(), PeerFault>
         ensures last { self.new.receiving ≡ record self.old.receiving { is_due = self.new.receiving.is_due } }
         ensures answers { (w : wire.Wire) → self.old.stage ≡ Accepted w → OnOk result (AnswersOpen w self.old.receiving self.new) }
-        ensures due { (w : wire.Wire) → self.old.stage ≡ Accepted w → IsWritten w.outgoing → OnOk result (self.new.receiving.is_due ≡ false) }
+        ensures due { (w : wire.Wire) → self.old.stage ≡ Accepted w → IsAllWritten w.outgoing → OnOk result (self.new.receiving.is_due ≡ false) }
         ensures untaken { self.new.untaken ≡ self.old.untaken }
     {
         let InStage::Accepted { wire } = &mut self.stage else {

@@ -2,7 +2,7 @@
 
 ghost use Rattle.std.specs.Prelude.{◌≡◌, ◌≤◌, ◌<◌, ◌-◌, ◌↔◌, [], ◌∷◌, length, take, IsTrue, IfOk, OnOk, OnErr, MatchResult};
 ghost use Rattle.std.specs.Io.KnownBytes.{Appends, Keeps};
-ghost use Rattle.peers.specs.Ways.{HasSaid, IsWritten, SaysMessages};
+ghost use Rattle.peers.specs.Ways.{HasSaid, IsAllWritten, SaysMessages};
 ghost use Rattle.peers.specs.declared.limits.TheConstants.{MOST_COLLECTED};
 ghost use Rattle.seals.specs.declared.frame.TheConstants.{MOST_PIECE_BYTES};
 
@@ -61,7 +61,7 @@ impl Outgoing {
 
     /// Whether all that was said is written.
     pub fn is_idle(&self) -> bool
-        ensures { IsTrue result ↔ IsWritten self.now }
+        ensures { IsTrue result ↔ IsAllWritten self.now }
     {
         self.plain.is_empty() && self.waits.is_empty()
     }
@@ -120,7 +120,7 @@ impl Outgoing {
     /// Seal: no number is left for a piece. NoMemory.
     pub fn seal(&mut self, alloc: Global) -> Result<(), PeerFault>
         ensures sealed { OnOk result (SaysMessages self.old [] [] self.new) }
-        ensures some { OnOk result (length self.new.waits ≡ 0 → IsWritten self.old) }
+        ensures some { OnOk result (length self.new.waits ≡ 0 → IsAllWritten self.old) }
     {
         if 0 < self.waits.len() || self.plain.is_empty() {
             return Ok(());

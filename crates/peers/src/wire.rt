@@ -2,7 +2,7 @@
 
 ghost use Rattle.std.specs.Prelude.{ℕ, ◌≡◌, ◌≤◌, ◌+◌, ◌^◌, ◌-◌, ◌++◌, ◌↔◌, ◌<◌, List, [], ◌∷◌, length, min, IsTrue, OnOk};
 ghost use Rattle.links.specs.Numbered.{Numbered};
-ghost use Rattle.peers.specs.Ways.{HasHeard, HasSaid, HearsMore, IsWritten, SaysMessages};
+ghost use Rattle.peers.specs.Ways.{HasHeard, HasSaid, HearsMore, IsAllWritten, SaysMessages};
 ghost use Rattle.peers.specs.declared.limits.TheConstants.{BEAT, MOST_SILENCE};
 ghost use Rattle.links.specs.declared.message.TheConstants.{HEARTBEAT};
 
@@ -86,7 +86,7 @@ impl Wire {
     pub fn wakes_at(&self) -> u64
         ensures soon { result ≤ min (self.now.heard + MOST_SILENCE) (2 ^ 64 - 1) }
         ensures late { min (min (self.now.beaten + BEAT) (2 ^ 64 - 1)) (min (self.now.heard + MOST_SILENCE) (2 ^ 64 - 1)) ≤ result }
-        ensures idle { IsWritten self.now.outgoing → result ≤ min (self.now.beaten + BEAT) (2 ^ 64 - 1) }
+        ensures idle { IsAllWritten self.now.outgoing → result ≤ min (self.now.beaten + BEAT) (2 ^ 64 - 1) }
     {
         if self.outgoing.is_idle() {
             self.beats_at().min(self.deadline())
