@@ -102,6 +102,9 @@ says_more o p q first second f g front key before written h =
     subst (λ (ms : List Numbered). HasSaid front key ms (written ++ []) q) (append_assoc before first second)
     (subst (λ (xs : List ℕ). HasSaid front key ((before ++ first) ++ second) xs q) (append-nil (written ++ [])) two)
 
+pub says_then_nothing : (o p q : OutgoingView) (messages : List Numbered) → SaysMessages o messages [] p → SaysMessages p [] [] q → SaysMessages o messages [] q
+says_then_nothing o p q messages f g = subst (λ (ms : List Numbered). SaysMessages o ms [] q) (append-nil messages) (says_more o p q messages [] f g)
+
 -- one message more
 pub says_one : (o p : OutgoingView) (m : Numbered) → p ≡ record o { plain = o.plain ++ message_text m } → SaysMessages o (m ∷ []) [] p
 says_one o p m e front key before written h =

@@ -14,8 +14,8 @@ use Rattle.peers.specs.declared.greeting.Greeted.{Greeted}
 use Rattle.peers.specs.declared.limits.TheConstants.{BEAT, MOST_PAUSE, MOST_SILENCE, MOMENT_BYTES}
 use Rattle.peers.specs.declared.wire.Wire.{Wire}
 use Rattle.peers.specs.declared.stranger.Admitted.{Admitted}
-use Rattle.peers.specs.declared.in_lane.InLane.{InLane}
-use Rattle.peers.specs.declared.in_lane.InStage.TheVariants.{Accepted}
+use Rattle.peers.specs.declared.in_lane.InStage.{InStage}
+use Rattle.peers.specs.declared.in_lane.InStage.TheVariants.{Away, Accepted}
 use Rattle.peers.specs.declared.out_lane.OutLane.{OutLane}
 use Rattle.peers.specs.declared.out_lane.OutStage.{OutStage}
 use Rattle.peers.specs.declared.out_lane.OutStage.TheVariants.{Down, Connecting, Greets, Open}
@@ -82,6 +82,27 @@ IsDown (Connecting until) = ⊥
 IsDown (Greets until greeting waits) = ⊥
 IsDown (Open wire) = ⊥
 
+-- if messages go both ways, this is so of the connection
+abbrev pub IfOpen : OutStage → (Wire → Type 0) → Type 0
+IfOpen (Down until) P = ⊤
+IfOpen (Connecting until) P = ⊤
+IfOpen (Greets until greeting waits) P = ⊤
+IfOpen (Open wire) P = P wire
+
+-- messages go both ways, and this is so of the connection
+abbrev pub IsOpenWith : OutStage → (Wire → Type 0) → Type 0
+IsOpenWith (Down until) P = ⊥
+IsOpenWith (Connecting until) P = ⊥
+IsOpenWith (Greets until greeting waits) P = ⊥
+IsOpenWith (Open wire) P = P wire
+
+-- if the hellos are not over, this is so of them
+abbrev pub IfGreets : OutStage → (GreetingView → Type 0) → Type 0
+IfGreets (Down until) P = ⊤
+IfGreets (Connecting until) P = ⊤
+IfGreets (Greets until greeting waits) P = P greeting
+IfGreets (Open wire) P = ⊤
+
 -- The connection is lost: another one is made after a pause, and the pause after that is twice as long, up to a limit.
 -- The letters are as they were.
 pub record IsLost (now : ℕ) (old new : OutLane) : Type 0 where
@@ -103,36 +124,30 @@ IsOpen (Open wire) = ⊤
 
 -- The answer is whole with some of the bytes, and is that of the peer. Messages go both ways under the keys of the
 -- connection, behind the tag of this member. What is held is handed out again.
-pub record OpensLane (id : Identity) (g : GreetingView) (bytes : List ℕ) (old : SendingView) (new : OutLane) (wire : Wire) : Type 0 where
+pub record OpensLane (id : Identity) (g : GreetingView) (bytes : List ℕ) (old new : SendingView) (wire : Wire) : Type 0 where
   pub count : ℕ
   pub greeted : Greeted
   pub answered : IsHelloAnswered id g.peer g.lane g.hello (g.came ++ take count bytes) greeted
   pub incoming : HasHeard MOMENT_BYTES greeted.keys.responder_key [] [] wire.incoming
   pub outgoing : HasSaid greeted.keys.initiator_tag greeted.keys.initiator_key [] [] wire.outgoing
-  pub connected : IsConnected greeted.life old new.sending
+  pub connected : IsConnected greeted.life old new
 
--- Bytes came on an open connection: it is open, and what some of the messages that were read of them acknowledge is let go.
-pub record HearsOpen (bytes : List ℕ) (wire : Wire) (old : SendingView) (new : OutLane) : Type 0 where
-  pub now : Wire
-  pub stage : new.stage ≡ Open now
+-- Bytes came on an open connection, and what some of the messages that were read of them acknowledge is let go.
+pub record HearsOpen (bytes : List ℕ) (wire now : Wire) (old new : SendingView) : Type 0 where
   pub messages : List Numbered
   pub hears : HearsMessages wire.incoming bytes messages now.incoming
-  pub lets_go : LetsGo messages old new.sending
+  pub lets_go : LetsGo messages old new
 
 -- Letters were handed out and said, each the next one, and then heartbeats.
-pub record Fills (wire : Wire) (old : SendingView) (new : OutLane) : Type 0 where
-  pub now : Wire
-  pub stage : new.stage ≡ Open now
+pub record Fills (wire now : Wire) (old new : SendingView) : Type 0 where
   pub letters : List Numbered
   pub beats : List Numbered
-  pub hands_out : HandsOutLetters old letters new.sending
+  pub hands_out : HandsOutLetters old letters new
   pub are_beats : All (λ (m : Numbered). m.0 ≡ HEARTBEAT) beats
   pub says : SaysMessages wire.outgoing (letters ++ beats) [] now.outgoing
 
 -- so many bytes were written
-pub record WritesOpen (wire : Wire) (n : ℕ) (new : OutLane) : Type 0 where
-  pub now : Wire
-  pub stage : new.stage ≡ Open now
+pub record WritesOpen (wire now : Wire) (n : ℕ) : Type 0 where
   pub there : n ≤ length wire.outgoing.waits
   pub says : SaysMessages wire.outgoing [] (take n wire.outgoing.waits) now.outgoing
 
@@ -142,10 +157,18 @@ pub record WritesOpen (wire : Wire) (n : ℕ) (new : OutLane) : Type 0 where
 abbrev pub IsAccepted : ℕ → Receiving → Receiving → Type 0
 IsAccepted life old new = ((life ≡ old.life) × (new ≡ on_accepted_connection old)) ⊎ ((old.life < life) × (new ≡ from_new_life life old))
 
+-- if messages go both ways, this is so of the connection
+abbrev pub IfAccepted : InStage → (Wire → Type 0) → Type 0
+IfAccepted Away P = ⊤
+IfAccepted (Accepted wire) P = P wire
+
+-- messages go both ways, and this is so of the connection
+abbrev pub IsAcceptedWith : InStage → (Wire → Type 0) → Type 0
+IsAcceptedWith Away P = ⊥
+IsAcceptedWith (Accepted wire) P = P wire
+
 -- Messages go both ways under the keys of the connection, behind what waits of the hellos.
-pub record Admits (who : Admitted) (most : ℕ) (waits : List ℕ) (now : ℕ) (new : InLane) : Type 0 where
-  pub wire : Wire
-  pub stage : new.stage ≡ Accepted wire
+pub record Admits (who : Admitted) (most : ℕ) (waits : List ℕ) (now : ℕ) (wire : Wire) : Type 0 where
   pub incoming : HasHeard most who.keys.initiator_key [] [] wire.incoming
   pub outgoing : HasSaid waits who.keys.responder_key [] [] wire.outgoing
   pub heard : wire.heard ≡ now
@@ -164,23 +187,19 @@ pub record ReceivesSome (messages : List Numbered) (old : Receiving) (before aft
   pub after_is : after ≡ before ++ given
 
 -- Bytes came on an open connection: some of the messages that were read of them are received.
-pub record HearsLetters (bytes : List ℕ) (wire : Wire) (old : Receiving) (before after : List Numbered) (new : InLane) : Type 0 where
-  pub now : Wire
-  pub stage : new.stage ≡ Accepted now
+pub record HearsLetters (bytes : List ℕ) (wire now : Wire) (old new : Receiving) (before after : List Numbered) : Type 0 where
   pub messages : List Numbered
   pub hears : HearsMessages wire.incoming bytes messages now.incoming
-  pub receives : ReceivesSome messages old before after new.receiving
+  pub receives : ReceivesSome messages old before after new
 
 -- the acknowledgement that is due, if one is: all letters that came
 abbrev pub due_acknowledgement : Receiving → List Numbered
 due_acknowledgement r = if r.is_due then (r.last, []) ∷ [] else []
 
 -- Nothing is said but the acknowledgement that is due, which is due no longer then, and heartbeats.
-pub record AnswersOpen (wire : Wire) (old : Receiving) (new : InLane) : Type 0 where
-  pub now : Wire
-  pub stage : new.stage ≡ Accepted now
+pub record AnswersOpen (wire now : Wire) (old new : Receiving) : Type 0 where
   pub acknowledgements : List Numbered
   pub beats : List Numbered
-  pub are_due : ((acknowledgements ≡ due_acknowledgement old) × (new.receiving ≡ record old { is_due = false })) ⊎ ((acknowledgements ≡ []) × (new.receiving ≡ old))
+  pub are_due : ((acknowledgements ≡ due_acknowledgement old) × (new ≡ record old { is_due = false })) ⊎ ((acknowledgements ≡ []) × (new ≡ old))
   pub are_beats : All (λ (m : Numbered). m.0 ≡ HEARTBEAT) beats
   pub says : SaysMessages wire.outgoing (acknowledgements ++ beats) [] now.outgoing

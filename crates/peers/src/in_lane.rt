@@ -5,10 +5,9 @@ ghost use Rattle.links.specs.Numbered.{Numbered};
 ghost use Rattle.links.specs.Receiving.{Receives};
 ghost use Rattle.links.specs.declared.message.TheConstants.{HEARTBEAT};
 ghost use Rattle.peers.specs.Ways.{IsAllWritten, SaysMessages};
-ghost use Rattle.peers.specs.Lanes.{IsAccepted, Admits, ReceivesSome, HearsLetters, AnswersOpen, due_acknowledgement, given_list, letter_bytes, moment_after};
+ghost use Rattle.peers.specs.Lanes.{IfAccepted, IsAccepted, IsAcceptedWith, Admits, ReceivesSome, HearsLetters, AnswersOpen, due_acknowledgement, given_list, letter_bytes, moment_after};
 ghost use Rattle.peers.specs.declared.limits.TheConstants.{BEAT, MOST_SILENCE, MOST_UNTAKEN};
 ghost use Rattle.peers.specs.declared.in_lane.InStage.TheVariants.{Away, Accepted};
-ghost use Rattle.peers.specs.declared.wire.Wire as wire;
 
 use crate::backlog::Backlog;
 use crate::fault::PeerFault;
@@ -149,7 +148,7 @@ impl InLane {
         waits: Backlog,
     ) -> Result<(), LinkFault>
         ensures accepted { OnOk result (IsAccepted who.now.life self.old.receiving self.new.receiving) }
-        ensures admits { OnOk result (Admits who.now most waits now self.new) }
+        ensures admits { OnOk result (IsAcceptedWith self.new.stage (Admits who.now most waits now)) }
         ensures old_life { (result ≡ Err LinkFault.OldLife) ↔ (who.now.life < self.old.receiving.life) }
         ensures err { OnErr result (self.new ≡ self.old) }
     {
@@ -197,8 +196,9 @@ impl InLane {
     pub fn tick(&mut self, now: u64) -> bool
         ensures receiving { self.new.receiving ≡ self.old.receiving }
         ensures away { self.old.stage ≡ Away → (result ≡ false) × (self.new ≡ self.old) }
-        ensures silent { (w : wire.Wire) → self.old.stage ≡ Accepted w → self.old.untaken < MOST_UNTAKEN → moment_after w.heard MOST_SILENCE ≤ now → (result ≡ true) × (self.new.stage ≡ Away) }
-        ensures heard { (w : wire.Wire) → self.old.stage ≡ Accepted w → now < moment_after w.heard MOST_SILENCE → result ≡ false }
+        ensures silent { IfAccepted self.old.stage (λ w. self.old.untaken < MOST_UNTAKEN → moment_after w.heard MOST_SILENCE ≤ now → (result ≡ true) × (self.new.stage ≡ Away)) }
+        ensures heard { IfAccepted self.old.stage (λ w. now < moment_after w.heard MOST_SILENCE → result ≡ false) }
+        ensures unread { MOST_UNTAKEN ≤ self.old.untaken → result ≡ false }
     {
         let is_read = self.wants_reads();
         let InStage::Accepted { wire } = &mut self.stage else {
@@ -235,45 +235,41 @@ impl InLane {
         bytes: &[u8],
         came: &mut Vec<Message>,
     ) -> Result<(), PeerFault>
-        ensures open { (w : wire.Wire) → self.old.stage ≡ Accepted w → HearsLetters bytes.now w self.old.receiving came.old.items came.new.items self.new }
+        ensures open { IfAccepted self.old.stage (λ w. IsAcceptedWith self.new.stage (λ now. HearsLetters bytes.now w now self.old.receiving self.new.receiving came.old.items came.new.items)) }
         ensures away { self.old.stage ≡ Away → (self.new ≡ self.old) × (came.new.items ≡ came.old.items) }
         ensures untaken { self.new.untaken ≡ min (self.old.untaken + letter_bytes (drop (length came.old.items) came.new.items)) (2 ^ 64 - 1) }
     {
         let InStage::Accepted { wire } = &mut self.stage else {
             return Ok(());
         };
-        let mut messages = Vec::new(alloc);
-        let heard = wire.hear(alloc, now, bytes, &mut messages);
-        let beat = last_beat(alloc, messages.as_slice());
         let before = came.len();
-        let received = receive_all(&mut self.receiving, messages, came);
+        let heard = hear_accepted(
+            alloc,
+            now,
+            bytes,
+            wire,
+            &mut self.receiving,
+            &mut self.echo,
+            came,
+        );
         self.untaken = self
             .untaken
             .saturating_add(bytes_behind(came.as_slice(), before));
-        heard?;
-        received?;
-        if let Some(text) = beat? {
-            self.echo = Some(text);
-        }
-        Ok(())
+        heard
     }
 
     /// Says the acknowledgement that is due, and a heartbeat if one is, once all that was said before is written. Then more can
     /// be written, if there is something. After an error the connection is to be closed, and is lost.
     pub fn fill(&mut self, alloc: Global, now: u64) -> Result<(), PeerFault>
         ensures last { self.new.receiving ≡ record self.old.receiving { is_due = self.new.receiving.is_due } }
-        ensures answers { (w : wire.Wire) → self.old.stage ≡ Accepted w → OnOk result (AnswersOpen w self.old.receiving self.new) }
-        ensures due { (w : wire.Wire) → self.old.stage ≡ Accepted w → IsAllWritten w.outgoing → OnOk result (self.new.receiving.is_due ≡ false) }
+        ensures answers { IfAccepted self.old.stage (λ w. OnOk result (IsAcceptedWith self.new.stage (λ now. AnswersOpen w now self.old.receiving self.new.receiving))) }
+        ensures due { IfAccepted self.old.stage (λ w. IsAllWritten w.outgoing → OnOk result (self.new.receiving.is_due ≡ false)) }
         ensures untaken { self.new.untaken ≡ self.old.untaken }
     {
         let InStage::Accepted { wire } = &mut self.stage else {
             return Ok(());
         };
-        if wire.outgoing.is_idle() {
-            say_acknowledgement(alloc, &mut self.receiving, &mut wire.outgoing)?;
-            say_beat(alloc, now, wire, &mut self.echo)?;
-        }
-        wire.outgoing.seal(alloc)
+        answer_accepted(alloc, now, wire, &mut self.receiving, &mut self.echo)
     }
 
     /// One write of what is to be written, at most 65,536 bytes: how many were taken.
@@ -326,5 +322,50 @@ fn say_beat(
     if wire.is_beat_due(now) {
         return wire.beat(alloc, now, &Text::new(alloc));
     }
+    Ok(())
+}
+
+/// Takes bytes that came on an open connection.
+fn hear_accepted(
+    alloc: Global,
+    now: u64,
+    bytes: &[u8],
+    wire: &mut Wire,
+    receiving: &mut Receiving,
+    echo: &mut Option<Text>,
+    came: &mut Vec<Message>,
+) -> Result<(), PeerFault>
+    ensures { HearsLetters bytes.now wire.old wire.new receiving.old receiving.new came.old.items came.new.items }
+{
+    let mut messages = Vec::new(alloc);
+    let heard = wire.hear(alloc, now, bytes, &mut messages);
+    let beat = last_beat(alloc, messages.as_slice());
+    receive_all(receiving, messages, came)?;
+    heard?;
+    if let Some(text) = beat? {
+        *echo = Some(text);
+    }
+    Ok(())
+}
+
+/// Says on an open connection what is to be said next.
+fn answer_accepted(
+    alloc: Global,
+    now: u64,
+    wire: &mut Wire,
+    receiving: &mut Receiving,
+    echo: &mut Option<Text>,
+) -> Result<(), PeerFault>
+    ensures last { receiving.new ≡ record receiving.old { is_due = receiving.new.is_due } }
+    ensures answers { OnOk result (AnswersOpen wire.old wire.new receiving.old receiving.new) }
+    ensures due { IsAllWritten wire.old.outgoing → OnOk result (receiving.new.is_due ≡ false) }
+{
+    if !wire.outgoing.is_idle() {
+        wire.outgoing.seal(alloc)?;
+        return Ok(());
+    }
+    say_acknowledgement(alloc, receiving, &mut wire.outgoing)?;
+    say_beat(alloc, now, wire, echo)?;
+    wire.outgoing.seal(alloc)?;
     Ok(())
 }

@@ -4,12 +4,10 @@ ghost use Rattle.std.specs.Prelude.{ℕ, ◌≡◌, ◌≤◌, ◌<◌, ◌^◌,
 ghost use Rattle.links.specs.Numbered.{Numbered};
 ghost use Rattle.links.specs.Sending.{HasRoomFor, last_number, with_letter, new_sending};
 ghost use Rattle.peers.specs.Ways.{HasHeard, HasSaid, SaysMessages};
-ghost use Rattle.peers.specs.Greeting.{GreetingView};
-ghost use Rattle.peers.specs.Lanes.{HandsOutLetters, LetsGo, IsDown, IsOpen, IsLost, IsGreeting, OpensLane, HearsOpen, Fills, WritesOpen, acknowledged_by, deadline_of, moment_after, wakes_of};
+ghost use Rattle.peers.specs.Lanes.{HandsOutLetters, LetsGo, IfGreets, IfOpen, IsDown, IsOpen, IsOpenWith, IsLost, IsGreeting, OpensLane, HearsOpen, Fills, WritesOpen, acknowledged_by, deadline_of, moment_after, wakes_of};
 ghost use Rattle.peers.specs.declared.limits.TheConstants.{BEAT, GREETING_LIMIT, LEAST_PAUSE, MOMENT_BYTES};
 ghost use Rattle.peers.specs.declared.out_lane.Act.TheVariants.{Rest, Connect, Close};
 ghost use Rattle.peers.specs.declared.out_lane.OutStage.TheVariants.{Down, Connecting, Greets, Open};
-ghost use Rattle.peers.specs.declared.wire.Wire as wire;
 ghost use Rattle.links.specs.declared.message.TheConstants.{HEARTBEAT};
 
 use crate::backlog::Backlog;
@@ -154,6 +152,12 @@ fn last_moment(messages: &[Message]) -> Option<u64> {
     found
 }
 
+/// How long the last heartbeat was under way whose echo is among messages that came now.
+fn trip_of(now: u64, messages: &[Message]) -> Option<u64> {
+    let moment = last_moment(messages)?;
+    Some(now.saturating_sub(moment))
+}
+
 /// A moment as the text of a heartbeat.
 fn text_of(alloc: Global, moment: u64) -> Result<Text, PeerFault> {
     let mut text = Text::new(alloc);
@@ -172,6 +176,45 @@ fn say_moment(alloc: Global, now: u64, wire: &mut Wire) -> Result<(), PeerFault>
     }
     let text = text_of(alloc, now)?;
     wire.beat(alloc, now, &text)
+}
+
+/// Takes bytes that came on an open connection.
+fn hear_open(
+    alloc: Global,
+    now: u64,
+    bytes: &[u8],
+    wire: &mut Wire,
+    sending: &mut Sending,
+    round_trip: &mut Option<u64>,
+) -> Result<(), PeerFault>
+    ensures { HearsOpen bytes.now wire.old wire.new sending.old sending.new }
+{
+    let mut messages = Vec::new(alloc);
+    let heard = wire.hear(alloc, now, bytes, &mut messages);
+    *round_trip = trip_of(now, messages.as_slice()).or(*round_trip);
+    acknowledge_all(sending, messages.as_slice())?;
+    heard
+}
+
+/// Says on an open connection what is to be said next.
+fn fill_open(
+    alloc: Global,
+    now: u64,
+    wire: &mut Wire,
+    sending: &mut Sending,
+) -> Result<(), PeerFault>
+    ensures held { sending.new.held ≡ sending.old.held }
+    ensures fills { OnOk result (Fills wire.old wire.new sending.old sending.new) }
+    ensures all { OnOk result (length wire.new.outgoing.waits ≡ 0 → sending.new.said ≡ last_number sending.new) }
+{
+    if !wire.outgoing.is_idle() {
+        wire.outgoing.seal(alloc)?;
+        return Ok(());
+    }
+    hand_out_all(alloc, sending, &mut wire.outgoing)?;
+    say_moment(alloc, now, wire)?;
+    wire.outgoing.seal(alloc)?;
+    Ok(())
 }
 
 impl OutLane {
@@ -316,7 +359,7 @@ impl OutLane {
         bytes: &[u8],
     ) -> Result<usize, PeerFault>
         ensures held { self.new.sending.held ≡ self.old.sending.held }
-        ensures opens { (until : ℕ) (g : GreetingView) (waits : List ℕ) (w : wire.Wire) → self.old.stage ≡ Greets until g waits → self.new.stage ≡ Open w → OpensLane id.now g bytes.now self.old.sending self.new w }
+        ensures opens { IfGreets self.old.stage (λ g. IfOpen self.new.stage (λ w. OpensLane id.now g bytes.now self.old.sending self.new.sending w)) }
         ensures count { IfOk result (λ n. n ≤ length bytes.now) }
     {
         let OutStage::Greets { greeting, .. } = &mut self.stage else {
@@ -335,22 +378,6 @@ impl OutLane {
         Ok(count)
     }
 
-    /// Takes bytes that came on an open connection.
-    fn hear_open(&mut self, alloc: Global, now: u64, bytes: &[u8]) -> Result<(), PeerFault>
-        ensures open { (w : wire.Wire) → self.old.stage ≡ Open w → HearsOpen bytes.now w self.old.sending self.new }
-    {
-        let OutStage::Open { wire } = &mut self.stage else {
-            return Ok(());
-        };
-        let mut messages = Vec::new(alloc);
-        let heard = wire.hear(alloc, now, bytes, &mut messages);
-        if let Some(moment) = last_moment(messages.as_slice()) {
-            self.round_trip = Some(now.saturating_sub(moment));
-        }
-        acknowledge_all(&mut self.sending, messages.as_slice())?;
-        heard
-    }
-
     /// Bytes came at this moment: how many of them were taken. If some are left, the hellos ended before them, and they are
     /// to be told in another call. After an error the connection is to be closed, and is lost.
     ///
@@ -363,13 +390,20 @@ impl OutLane {
         id: &Identity,
         bytes: &[u8],
     ) -> Result<usize, PeerFault>
-        ensures open { (w : wire.Wire) → self.old.stage ≡ Open w → HearsOpen bytes.now w self.old.sending self.new }
+        ensures open { IfOpen self.old.stage (λ w. IsOpenWith self.new.stage (λ now. HearsOpen bytes.now w now self.old.sending self.new.sending)) }
         ensures held { (IsOpen self.old.stage → ⊥) → self.new.sending.held ≡ self.old.sending.held }
-        ensures opens { (until : ℕ) (g : GreetingView) (waits : List ℕ) (w : wire.Wire) → self.old.stage ≡ Greets until g waits → self.new.stage ≡ Open w → OpensLane id.now g bytes.now self.old.sending self.new w }
+        ensures opens { IfGreets self.old.stage (λ g. IfOpen self.new.stage (λ w. OpensLane id.now g bytes.now self.old.sending self.new.sending w)) }
         ensures count { IfOk result (λ n. n ≤ length bytes.now) }
     {
-        if self.is_open() {
-            self.hear_open(alloc, now, bytes)?;
+        if let OutStage::Open { wire } = &mut self.stage {
+            hear_open(
+                alloc,
+                now,
+                bytes,
+                wire,
+                &mut self.sending,
+                &mut self.round_trip,
+            )?;
             return Ok(bytes.len());
         }
         self.take_answer(alloc, now, id, bytes)
@@ -380,23 +414,19 @@ impl OutLane {
     /// closed, and is lost.
     pub fn fill(&mut self, alloc: Global, now: u64) -> Result<(), PeerFault>
         ensures held { self.new.sending.held ≡ self.old.sending.held }
-        ensures fills { (w : wire.Wire) → self.old.stage ≡ Open w → OnOk result (Fills w self.old.sending self.new) }
-        ensures all { (w : wire.Wire) → self.new.stage ≡ Open w → OnOk result (length w.outgoing.waits ≡ 0 → self.new.sending.said ≡ last_number self.new.sending) }
+        ensures fills { IfOpen self.old.stage (λ w. OnOk result (IsOpenWith self.new.stage (λ now. Fills w now self.old.sending self.new.sending))) }
+        ensures all { OnOk result (IfOpen self.new.stage (λ w. length w.outgoing.waits ≡ 0 → self.new.sending.said ≡ last_number self.new.sending)) }
     {
         let OutStage::Open { wire } = &mut self.stage else {
             return Ok(());
         };
-        if wire.outgoing.is_idle() {
-            hand_out_all(alloc, &mut self.sending, &mut wire.outgoing)?;
-            say_moment(alloc, now, wire)?;
-        }
-        wire.outgoing.seal(alloc)
+        fill_open(alloc, now, wire, &mut self.sending)
     }
 
     /// One write of what is to be written, at most 65,536 bytes: how many were taken.
     pub fn write<W: Write>(&mut self, to: &mut W) -> io::Result<usize>
         ensures others { self.new ≡ record self.old { stage = self.new.stage } }
-        ensures said { (w : wire.Wire) → self.old.stage ≡ Open w → IfOk result (λ n. WritesOpen w n self.new) }
+        ensures said { IfOpen self.old.stage (λ w. IfOk result (λ n. IsOpenWith self.new.stage (λ now. WritesOpen w now n))) }
     {
         match &mut self.stage {
             OutStage::Greets { waits, .. } => waits.write(to),
