@@ -334,8 +334,9 @@ impl PeerLoop {
 
     /// Closes the stranger at this place.
     fn leave(&mut self, at: usize) {
+        let lanes = self.in_lanes.len();
         self.strangers.leave(at);
-        self.remove(token_of(ConnectionPlace::Stranger(at), self.in_lanes.len()));
+        self.remove(token_of(ConnectionPlace::Stranger(at), lanes));
     }
 
     /// Accepts the connections that wait, a few at most.

@@ -14,34 +14,31 @@ abbrev pub ends_of : Hello → List ℕ
 ends_of h = h.from ∷ h.to ∷ lane_byte h.lane ∷ []
 
 -- what is behind the front, behind the site, behind the ends
-behind_front : Hello → List ℕ
-
-behind_site : Hello → List ℕ
-
-behind_ends : Hello → List ℕ
+abbrev behind_ends : Hello → List ℕ
 behind_ends h = to_be_bytes w64 h.life ++ h.random
+
+abbrev behind_site : Hello → List ℕ
 behind_site h = ends_of h ++ behind_ends h
+
+abbrev behind_front : Hello → List ℕ
 behind_front h = h.site ++ behind_site h
 
 module _ (bytes : List ℕ) (h : Hello) (is : IsHello h) (e : bytes ≡ hello_text h) where
   pub front_is : take 6 bytes ≡ FRONT
-  unfolding hello_text behind_front behind_site behind_ends
+  unfolding hello_text
   front_is = ap (λ xs. take 6 xs) e ∙ take_at FRONT (behind_front h) 6 refl
 
   after_front : drop 6 bytes ≡ behind_front h
-  unfolding hello_text behind_front behind_site behind_ends
+  unfolding hello_text
   after_front = ap (λ xs. drop 6 xs) e ∙ drop_at FRONT (behind_front h) 6 refl
 
   after_site : drop 16 (drop 6 bytes) ≡ behind_site h
-  unfolding behind_front
   after_site = ap (λ xs. drop 16 xs) after_front ∙ drop_at h.site (behind_site h) 16 is.site
 
   pub ends_are : take 3 (drop 16 (drop 6 bytes)) ≡ ends_of h
-  unfolding behind_site
   ends_are = ap (λ xs. take 3 xs) after_site ∙ take_at (ends_of h) (behind_ends h) 3 refl
 
   after_ends : drop 3 (drop 16 (drop 6 bytes)) ≡ behind_ends h
-  unfolding behind_site
   after_ends = ap (λ xs. drop 3 xs) after_site ∙ drop_at (ends_of h) (behind_ends h) 3 refl
 
   pub long : length bytes ≡ HELLO_BYTES

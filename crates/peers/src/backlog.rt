@@ -55,7 +55,15 @@ impl Backlog {
     pub fn is_empty(&self) -> bool
         ensures { IsTrue result ↔ (self.now ≡ []) }
     {
-        self.len() == 0
+        self.rest().is_empty()
+    }
+
+    /// Those that wait.
+    fn rest(&self) -> &[u8]
+        ensures { result.now ≡ self.now }
+    {
+        let (_, rest) = self.bytes.split_at(self.gone);
+        rest
     }
 
     /// These wait too, behind the others. The only error is a failed allocation.

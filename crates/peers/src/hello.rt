@@ -1,9 +1,10 @@
 //! The first bytes of a connection, of each end.
 
-ghost use Rattle.std.specs.Prelude.{◌≡◌, IfOk, IfSome, IfNone};
+ghost use Rattle.std.specs.Prelude.{◌≡◌, ◌↔◌, IsTrue, IfOk, IfSome, IfNone};
 ghost use Rattle.peers.specs.declared.hello.Hello.{Hello};
 ghost use Rattle.peers.specs.Hello.{hello_text, lane_byte};
 ghost use Rattle.peers.specs.HelloParts.{IsHello};
+ghost use Rattle.peers.specs.declared.hello.TheConstants.{FRONT};
 
 use std::alloc::{AllocError, Global};
 
@@ -68,8 +69,16 @@ pub struct Hello {
     pub random: [u8; RANDOM_BYTES],
 }
 
+/// Whether a hello of this version begins so.
+fn is_front(bytes: &[u8; 6]) -> bool
+    ensures { IsTrue result ↔ (bytes.now ≡ FRONT) }
+{
+    *bytes == FRONT
+}
+
 impl Hello {
     /// Its bytes, which are `HELLO_BYTES`. The only error is a failed allocation.
+    #[tactic(auto, unfolding(crate::specs::Hello::hello_text))]
     pub fn to_bytes(&self, alloc: Global) -> Result<Vec<u8>, AllocError>
         ensures { IfOk result (λ bytes. bytes.items ≡ hello_text self.now) }
     {
@@ -94,7 +103,7 @@ impl Hello {
         let random = <&[u8; RANDOM_BYTES]>::try_from(random).ok()?;
         let [from, to, lane] = *ends;
         let lane = LaneKind::of_byte(lane)?;
-        if *front != FRONT {
+        if !is_front(front) {
             return None;
         }
         Some(Hello {

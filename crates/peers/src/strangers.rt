@@ -1,7 +1,8 @@
 //! The connections that were accepted and whose hellos are not over.
 
-ghost use Rattle.std.specs.Prelude.{ℕ, ◌≡◌, ◌≢◌, ◌<◌, ◌≤◌, ◌^◌, ◌-◌, length, All, None, Some, false, IsTrue, IfSome, IfNone, IfOk, slice_get, slice_set};
-ghost use Rattle.peers.specs.Strangers.{Comes, IsStrangerInTime, IsLate, IsLateAt};
+ghost use Rattle.std.specs.Prelude.{ℕ, ◌≡◌, ◌≢◌, ◌<◌, ◌≤◌, ◌^◌, length, get_or, All, None, Some, IfSome, IfNone, IfOk, slice_get, slice_set};
+ghost use Rattle.std.specs.List.{position};
+ghost use Rattle.peers.specs.Strangers.{Comes, is_late_at, until_of};
 
 use crate::identity::Identity;
 use crate::limits::{GREETING_LIMIT, MOST_STRANGERS};
@@ -80,33 +81,39 @@ impl Strangers {
         self.all.get_mut(at)?.as_mut()
     }
 
-    /// The place of one whose time is over at this moment, if there is one.
+    /// The first place of one whose time is over at this moment, if there is one.
     pub fn late(&self, now: u64) -> Option<usize>
-        ensures some { IfSome result (λ at. IsLateAt now self.now at) }
-        ensures none { IfNone result (All (IsStrangerInTime now) self.now) }
+        ensures { result ≡ position (is_late_at now) self.now }
     {
         self.all.iter().position(|stranger| is_late(stranger, now))
     }
 
     /// When the first of them is closed. 2^64 - 1: there is none.
     pub fn deadline(&self) -> u64
-        ensures soon { All (λ s. IfSome s (λ stranger. result ≤ stranger.until)) self.now }
-        ensures late { (now : ℕ) → now < 2 ^ 64 - 1 → All (IsStrangerInTime now) self.now → now < result }
+        ensures soon { (at : ℕ) → at < length self.now → result ≤ until_of (get_or self.now at None) }
+        ensures late { (moment : ℕ) → moment < 2 ^ 64 → ((at : ℕ) → at < length self.now → moment ≤ until_of (get_or self.now at None)) → moment ≤ result }
     {
         let mut first = u64::MAX;
         for stranger in &self.all {
-            if let Some(stranger) = stranger {
-                first = first.min(stranger.until());
-            }
+            first = first.min(until_of(stranger));
         }
         first
     }
 }
 
+/// When it is closed. 2^64 - 1: none is there.
+fn until_of(stranger: &Option<Stranger>) -> u64
+    ensures { result ≡ until_of stranger.now }
+{
+    match stranger {
+        Some(stranger) => stranger.until(),
+        None => u64::MAX,
+    }
+}
+
 /// Whether its time is over.
 fn is_late(stranger: &Option<Stranger>, now: u64) -> bool
-    ensures late { IsTrue result → IsLate now stranger.now }
-    ensures in_time { result ≡ false → IsStrangerInTime now stranger.now }
+    ensures { result ≡ is_late_at now stranger.now }
 {
     match stranger {
         Some(stranger) => stranger.until() <= now,
