@@ -6,7 +6,7 @@ use Rattle.std.proofs.lemmas.List.Concat.{flat_map-append}
 use Rattle.std.proofs.lemmas.List.Elements.{All-nil, All-push}
 use Rattle.seals.specs.declared.sealer.Sealer.{Sealer}
 use Rattle.seals.specs.declared.frame.TheConstants.{MOST_PIECE_BYTES}
-use Rattle.std.specs.Int.{w32, to_be_bytes}
+use Rattle.std.specs.Int.{w32, w64, to_be_bytes}
 use Rattle.seals.specs.Frame.{frame, frames, with_length, tag_behind}
 use Rattle.seals.specs.Opening.{HasOpened, OpensMore}
 use Rattle.links.specs.Numbered.{Numbered}
@@ -81,6 +81,11 @@ frame_some key number piece =
 
 pub texts-push : (messages : List Numbered) (m : Numbered) → flat_map message_text (messages ++ m ∷ []) ≡ flat_map message_text messages ++ message_text m
 texts-push messages m = flat_map-append message_text messages (m ∷ []) ∙ ap (λ xs. flat_map message_text messages ++ xs) (append-nil (message_text m))
+
+-- a message has bytes
+pub message_some : (m : Numbered) → 0 < length (message_text m)
+unfolding message_text
+message_some m = omega (arith, length-append (to_be_bytes w64 m.0) (to_be_bytes w32 (length m.1) ++ m.1))
 
 pub said_none : (key waits : List ℕ) (o : OutgoingView) → o.plain ≡ [] → o.waits ≡ waits → o.sealer ≡ record { key = key; number = 0 } → HasSaid waits key [] [] o
 said_none key waits o plain e sealer = record {

@@ -78,7 +78,6 @@ fn is_front(bytes: &[u8; 6]) -> bool
 
 impl Hello {
     /// Its bytes, which are `HELLO_BYTES`. The only error is a failed allocation.
-    #[tactic(auto, unfolding(crate::specs::Hello::hello_text))]
     pub fn to_bytes(&self, alloc: Global) -> Result<Vec<u8>, AllocError>
         ensures { IfOk result (λ bytes. bytes.items ≡ hello_text self.now) }
     {

@@ -8,7 +8,7 @@ ok_map (Ok x) P Q f h = f x h
 ok_map (Err e) P Q f h = tt
 
 pub returns-clause-said : goal.returns-clause-said
-returns-clause-said c =
+returns-clause-said g c =
     let inside = c.self.inside in
     let old : OutgoingView = record { sealer = inside.sealer; plain = inside.plain; waits = inside.waits } in
     let new : OutgoingView = record { sealer = inside.sealer; plain = inside.plain; waits = c.write.new.self } in

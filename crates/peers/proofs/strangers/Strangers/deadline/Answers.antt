@@ -10,8 +10,11 @@ loop-stranger-preserved c =
     let loop = c.loop-stranger in
     let all : List (Option StrangerView) = c.args.self.now in
     let item : Option StrangerView = c.stranger-item.result in
-    let here : get_or all loop.stranger-index None ≡ item = get_or_default all loop.stranger-index None item c.loop-stranger-test.true ∙ sym c.stranger-item.is in
-    let until : c.until_of.result ≡ until_of (get_or all loop.stranger-index None) = c.until_of.ensures ∙ ap until_of (sym here) in record {
+    let items : List (Option StrangerView) = c.deref-stranger-items.result.now in
+    let same : items ≡ all = c.deref-stranger-items.ensures.value ∙ c.self.view_is in
+    let here : get_or items loop.stranger-index None ≡ item = get_or_default items loop.stranger-index None item c.loop-stranger-test.true ∙ sym c.stranger-item.is in
+    let until : c.until_of.result ≡ until_of (get_or all loop.stranger-index None) =
+    c.until_of.ensures ∙ (ap until_of (sym here) ∙ ap (λ (xs : List (Option StrangerView)). until_of (get_or xs loop.stranger-index None)) same) in record {
       soon =
           λ at lt. elim (cases_lt at loop.stranger-index) [
             | inl low ↦ omega (arith, c.min-first.ensures, loop.invariant.soon at low)
