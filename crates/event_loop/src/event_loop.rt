@@ -139,7 +139,7 @@ fn events_of(sockets: usize) -> usize
     ensures most { result ≤ 1024 }
 {
     let part = (sockets / PARTS).min(MOST_EVENTS).max(LEAST_EVENTS);
-    part.next_power_of_two()
+    part / LEAST_EVENTS * LEAST_EVENTS
 }
 
 impl Ready {
