@@ -36,6 +36,7 @@ mod stopping;
 mod tending;
 mod times;
 mod working;
+mod yard;
 
 pub use answer::Answer;
 pub use ensemble::Ensemble;
@@ -49,4 +50,5 @@ pub use process_laws::{
 pub use process_record::ProcessRecord;
 pub use serving::Seen;
 pub use times::Times;
+pub use yard::Hand;
 pub use worlds::{Config, Replica};

@@ -3,11 +3,16 @@
 ghost use Rattle.std.specs.Prelude.{◌≡◌, ◌<◌};
 ghost use Rattle.ensemble.specs.Shown.{later_epoch};
 
+use crate::posting::post;
+use crate::yard::{Made, Yard};
 use decrees::{Letter, Node};
 use exec_lines::Body;
 use hosts::ExecutorHost;
 use proxies::Proxy;
+use std::alloc::Global;
 use std::collections::VecDeque;
+use std::sync::Wait;
+use std::thread::Threads;
 use std::marker::Model;
 use worlds::VerifierSlot;
 
@@ -19,6 +24,7 @@ pub struct Nodes {
     pub executors: Vec<ExecutorHost>,
     pub verifiers: Vec<VerifierSlot>,
     pub mail: VecDeque<Letter<Body>>,
+    pub yard: Yard,
 }
 
 impl Model for Nodes {
@@ -136,6 +142,37 @@ impl Nodes {
         !self.mail.is_empty()
     }
 
+    /// Sends out what is to be executed: whether there was any.
+    pub fn send_out<R: Threads + Wait + Sync>(&mut self, rt: &R) -> bool {
+        let mut any = false;
+        for at in 0..self.executors.len() {
+            if let Some(errand) = self.executors[at].take_errand() {
+                let _ = self.yard.to[at].put(rt, errand);
+                self.yard.out += 1;
+                any = true;
+            }
+        }
+        any
+    }
+
+    /// Takes what was made: whether there was any.
+    pub fn take_made<R: Threads + Wait + Sync>(&mut self, rt: &R, alloc: Global, refused: &mut u64) -> bool {
+        let mut any = false;
+        for _ in 0..64 {
+            let Some(made) = self.yard.from.try_take(rt) else {
+                return any;
+            };
+            self.yard.out -= 1;
+            let Made { id, tentative } = made;
+            if let Some(tentative) = tentative {
+                let sent = self.executors[usize::from(id)].adopt(alloc, tentative);
+                post(&mut self.mail, sent, refused);
+            }
+            any = true;
+        }
+        any
+    }
+
     /// Ends all of them.
     pub fn end(self) {
         let Nodes {
@@ -144,7 +181,9 @@ impl Nodes {
             executors,
             verifiers,
             mail,
+            yard,
         } = self;
+        drop(yard);
         end_executors(executors);
         drop(proxies);
         drop(verifiers);

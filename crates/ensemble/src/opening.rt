@@ -9,6 +9,7 @@ use crate::ensemble::Ensemble;
 use crate::nodes::{Nodes, end_executors};
 use crate::progress::Progress;
 use crate::times::Stopwatch;
+use crate::yard::Yard;
 use hosts::ExecutorHost;
 use http_server::Log;
 use proto::Fault;
@@ -97,6 +98,7 @@ fn opened_nodes(alloc: Global, config: &Config) -> Result<Nodes, AllocError>
     let u = config.u();
     let proxies = first_proxies(alloc, config.clients())?;
     let verifiers = opened_verifiers(alloc, u, 2 * u + 1)?;
+    let yard = Yard::new(alloc, 2 * u + 1)?;
     let executors = opened_executors(alloc, u, 2 * u + 1)?;
     Ok(Nodes {
         u,
@@ -104,6 +106,7 @@ fn opened_nodes(alloc: Global, config: &Config) -> Result<Nodes, AllocError>
         executors,
         verifiers,
         mail: VecDeque::new(alloc),
+        yard,
     })
 }
 

@@ -143,6 +143,7 @@ impl ProcessRecord {
             verifiers,
         } = self;
         let verifiers = down_verifiers(alloc, verifiers)?;
+        let yard = crate::yard::Yard::new(alloc, 2 * u + 1)?;
         let executors = down_hosts(alloc, executors)?;
         Ok(Nodes {
             u,
@@ -150,6 +151,7 @@ impl ProcessRecord {
             executors,
             verifiers,
             mail: VecDeque::new(alloc),
+            yard,
         })
     }
 

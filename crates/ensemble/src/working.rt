@@ -324,13 +324,47 @@ impl Ensemble {
         if self.nodes.has_letters() {
             return false;
         }
+        if self.made_and_next(rt, alloc, moment) {
+            return true;
+        }
+        if self.nodes.send_out(rt) {
+            return true;
+        }
         if self.take_orders(alloc) {
             return true;
         }
         if self.run_jobs(rt, clock, alloc) {
             return true;
         }
-        self.cut(alloc, moment)
+        if self.cut(alloc, moment) {
+            return true;
+        }
+        self.nodes.send_out(rt)
+    }
+
+    fn made_and_next<R: Threads + Wait + Sync>(
+        &mut self,
+        rt: &R,
+        alloc: Global,
+        moment: u32,
+    ) -> bool {
+        if !self.nodes.take_made(rt, alloc, &mut self.refused) {
+            return false;
+        }
+        self.take_orders(alloc);
+        self.cut(alloc, moment);
+        self.nodes.send_out(rt);
+        true
+    }
+
+    /// What was made is adopted, and the next batch goes out before anything else is done.
+    pub fn hurry<R: Threads + Wait + Sync>(&mut self, rt: &R, alloc: Global, moment: u32) {
+        self.made_and_next(rt, alloc, moment);
+    }
+
+    /// The hand of an executor, to be put into a thread of its own.
+    pub fn hand(&mut self) -> Option<crate::yard::Hand> {
+        self.nodes.yard.hands.pop()
     }
 
     /// It goes on until nothing more can be done, or there is no memory for an answer: whether one of these came about.
@@ -404,11 +438,13 @@ impl Ensemble {
         ensures quiet { self.new.refused ≡ self.old.refused → self.old.refused < 2 ^ 64 - 1 → is_quiet self.old.nodes ≡ true }
     {
         self.progress.look_at(self.nodes.executors.as_slice());
-        if is_done && self.nodes.is_quiet() {
+        if is_done && self.nodes.is_quiet() && self.nodes.yard.out == 0 {
             self.progress.rest();
         } else {
             self.progress.is_at_rest = false;
-            refuse(&mut self.refused);
+            if self.nodes.yard.out == 0 {
+                refuse(&mut self.refused);
+            }
         }
     }
 }

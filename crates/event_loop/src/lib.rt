@@ -45,6 +45,6 @@ mod visits;
 pub use counts::{Counts, Watch};
 pub use event_loop::Admission;
 pub use message::{Heard, MOST_UNWRITTEN, Said};
-pub use service::Serve;
+pub use service::{Labour, Serve};
 pub use serving::{Refused, read_out, serve};
 pub use stream::Listener;

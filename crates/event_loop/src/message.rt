@@ -55,6 +55,8 @@ pub enum ToService {
     Heard { heard: Vec<Heard>, micros: u64 },
     /// A tenth of a second has passed.
     Tick,
+    /// A hand has done something.
+    Ping,
     /// The service is to end.
     Stop,
 }

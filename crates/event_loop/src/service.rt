@@ -5,9 +5,19 @@ use std::rt::Clock;
 use std::sync::Wait;
 use std::thread::Threads;
 
+/// Works beside the service, in a thread of its own.
+pub trait Labour {
+    fn labour<R: Threads + Wait + Sync>(&mut self, rt: &R) -> bool;
+}
+
 /// A service behind an event loop. One thread at a time calls it.
 pub trait Serve {
     ghost use denote.Param.Send.{IsSync};
+
+    type Hand: Labour + Send + Drop;
+
+    /// What is to work beside it, once each.
+    fn hand(&mut self) -> Option<Self::Hand>;
 
     /// It is now so many microseconds after the start of 1970. It is said before it works and after, and before it hears: then
     /// the moment at which what it hears was read.

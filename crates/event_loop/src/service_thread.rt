@@ -51,6 +51,14 @@ impl Outcome {
     };
 }
 
+/// Whether the event loop waits for its end.
+fn is_counted(message: &ToService) -> bool {
+    match message {
+        ToService::Ping => false,
+        _ => true,
+    }
+}
+
 /// Hands on one message. Whether the service goes on.
 fn hand_in<S: Serve>(service: &mut S, message: ToService) -> bool {
     match message {
@@ -59,6 +67,7 @@ fn hand_in<S: Serve>(service: &mut S, message: ToService) -> bool {
             service.hear(heard);
         }
         ToService::Tick => service.tick(),
+        ToService::Ping => {}
         ToService::Stop => return false,
     }
     true
@@ -72,15 +81,20 @@ fn hand_in_all<R: Wait, S: Serve>(
 ) -> Option<usize>
     ensures { IfSome result (λ count. count ≤ MOST_TAKEN) }
 {
-    for count in 0..MOST_TAKEN {
+    let mut taken = 0;
+    for _ in 0..MOST_TAKEN {
         let Some(message) = inbox.try_take(rt) else {
-            return Some(count);
+            return Some(taken);
         };
+        let counts = is_counted(&message);
         if !hand_in(service, message) {
             return None;
         }
+        if counts {
+            taken += 1;
+        }
     }
-    Some(MOST_TAKEN)
+    Some(taken)
 }
 
 /// Hands on the first message, and all others that are there, and lets the service work.
@@ -93,10 +107,12 @@ fn pass<R: Threads + Wait + Sync + Clock, S: Serve>(
     let mut answered = 0;
     service.set_micros(ends.moments.micros(rt));
     if let Some(message) = first {
+        if is_counted(&message) {
+            answered = 1;
+        }
         if !hand_in(service, message) {
             return Outcome::STOP;
         }
-        answered = 1;
     }
     let Some(more) = hand_in_all(rt, service, &mut ends.inbox) else {
         return Outcome::STOP;

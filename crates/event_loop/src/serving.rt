@@ -4,7 +4,8 @@ use crate::counts::{Shared, Watch};
 use crate::event_loop::{Admission, EventLoop, Ready};
 use crate::loop_thread::{LoopEnds, LoopSide, run_loop};
 use crate::moments::Moments;
-use crate::service::Serve;
+use crate::message::ToService;
+use crate::service::{Labour, Serve};
 use crate::service_thread::{ServiceEnds, run_service};
 use crate::stream::Listener;
 use link::Link;
@@ -95,11 +96,22 @@ pub fn read_out<I: Read>(input: &mut I) {
     }
 }
 
+/// The loop of a hand.
+fn run_hand<R: Threads + Wait + Sync, H: Labour>(rt: &R, hand: &mut H, bell: &mut Link<ToService>) {
+    for _ in rt.forever() {
+        if !hand.labour(rt) {
+            return;
+        }
+        let _ = bell.put(rt, ToService::Ping);
+    }
+}
+
 /// Runs the two threads until `beside` returns. Whether both could be started.
 fn run<'a, R: Threads + Wait + Clock + Sync, S: Serve + Send, F: FnOnce(&Watch<'_, S>)>(
     rt: &'a R,
     service: &'a Mutex<S>,
     parts: Parts,
+    hands: Vec<(S::Hand, Link<ToService>)>,
     beside: F,
 ) -> bool
     requires { F.IsAlwaysCallable beside }
@@ -118,6 +130,14 @@ fn run<'a, R: Threads + Wait + Clock + Sync, S: Serve + Send, F: FnOnce(&Watch<'
         };
         if scope.spawn(of_loop).is_err() {
             return false;
+        }
+        for (hand, link) in hands {
+            let of_hand = move || {
+                let mut hand = hand;
+                let mut link = link;
+                run_hand(rt, &mut hand, &mut link);
+            };
+            let _ = scope.spawn(of_hand);
         }
         let of_service = move || {
             let mut ends = service_ends;
@@ -148,12 +168,22 @@ pub fn serve<R: Net + Threads + Wait + Clock + Sync, S: Serve + Send, F: FnOnce(
 ) -> (S, Result<(), Refused>)
     requires { F.IsAlwaysCallable beside }
 {
-    let parts = match Parts::new(rt, alloc, listeners, admission) {
+    let mut service = service;
+    let mut parts = match Parts::new(rt, alloc, listeners, admission) {
         Ok(parts) => parts,
         Err(refused) => return (service, Err(refused)),
     };
+    let mut hands = Vec::new(alloc);
+    for _ in 0..16 {
+        let Some(hand) = service.hand() else {
+            break;
+        };
+        if let Ok(link) = parts.service_ends.inbox.another() {
+            let _ = hands.push((hand, link));
+        }
+    }
     let shared = Mutex::new(service);
-    let is_started = run(rt, &shared, parts, beside);
+    let is_started = run(rt, &shared, parts, hands, beside);
     let served = if is_started {
         Ok(())
     } else {

@@ -49,6 +49,9 @@ impl State {
     pub fn next_work(&self) -> Option<NextWork>
         ensures { ComesNext self.now.work result }
     {
+        if self.away {
+            return Some(NextWork::Finish);
+        }
         let work = self.work.as_ref()?;
         Some(match work.next_place() {
             Some(place) => NextWork::Step(place),

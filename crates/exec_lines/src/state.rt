@@ -4,6 +4,7 @@ ghost use Rattle.std.specs.Prelude.{◌≡◌, ◌≤◌, ◌<◌, [], None, IfO
 ghost use Rattle.executor.specs.Work.{CommittedView};
 ghost use Rattle.exec_lines.specs.State.{is_behind as behind, next_batch_number, is_primary as leads, may_begin as may, runs_in_order as in_order, new_executor, after_crash};
 
+use crate::errand::Errand;
 use batches::Gather;
 use decrees::Standing;
 use executor::{Committed, Work};
@@ -19,6 +20,8 @@ pub struct State {
     pub(crate) chain: Chain,
     pub(crate) gather: Gather,
     pub(crate) work: Option<Work>,
+    pub(crate) errand: Option<Errand>,
+    pub(crate) away: bool,
 }
 
 impl Model for State {
@@ -60,6 +63,8 @@ impl State {
             chain,
             gather: Gather::new(alloc),
             work: None,
+            errand: None,
+            away: false,
         }
     }
 
@@ -89,7 +94,7 @@ impl State {
     pub(crate) fn may_begin(&self) -> bool
         ensures { result ≡ may self.now }
     {
-        !self.is_behind() && self.work.is_none() && self.chain.len() < MOST_MEMBERS
+        !self.is_behind() && !self.away && self.work.is_none() && self.chain.len() < MOST_MEMBERS
     }
 
     /// Whether a batch of this number runs in batch order.
@@ -97,6 +102,16 @@ impl State {
         ensures { result ≡ in_order self.now.standing n }
     {
         1 < self.standing.epoch && n == self.standing.start
+    }
+
+    /// Whether it has no state to commit, and one is made elsewhere.
+    pub fn waits_for_work(&self, has_orders: bool) -> bool {
+        (self.away || has_orders || self.work.is_some()) && self.chain.len() == 0
+    }
+
+    /// What is to be executed elsewhere, once.
+    pub fn take_errand(&mut self) -> Option<Errand> {
+        self.errand.take()
     }
 
     /// Ends it: its chain is undone, and all that it keeps is let go.
@@ -107,7 +122,10 @@ impl State {
             chain,
             gather,
             work,
+            errand,
+            away: _,
         } = self;
+        drop(errand);
         drop(gather);
         drop(work);
         drop(chain.end());

@@ -13,6 +13,7 @@ ghost use Rattle.exec_lines.specs.Lines.{completed, went_on, begin as begin_line
 ghost use Rattle.exec_lines.specs.Step.{is_at_end as at_end};
 
 use crate::body::Body;
+use crate::errand::Errand;
 use crate::letters::tell;
 use crate::outcome::Outcome;
 use crate::state::State;
@@ -20,8 +21,12 @@ use batches::Batch;
 use decrees::Letter;
 use executor::{Ended, Tentative, Work};
 use proto::Fault;
+use rollback::MOST_MEMBERS;
 use std::alloc::{AllocError, Global};
 use std::mem;
+
+/// A batch of so many requests is executed elsewhere.
+pub const LEAST_AWAY: usize = 4;
 
 /// Whether the tentative state is over the base of the work, as number and token tell.
 fn is_over_base(tentative: &Tentative, work: &Work) -> bool
@@ -132,6 +137,17 @@ impl State {
         requires next { batch.n ≡ next_batch_number self.old }
         ensures { IfOk result (λ outcome. record { state = self.new; saves = outcome.saves; letters = outcome.letters.items } ≡ begin_line u id self.old first.items batch) }
     {
+        if 0 < u && LEAST_AWAY <= batch.requests.len() {
+            let ordered = self.runs_in_order(batch.n);
+            let base = self.chain.tip().share()?;
+            self.errand = Some(Errand {
+                base,
+                batch,
+                ordered,
+            });
+            self.away = true;
+            return Ok(Outcome::said(first));
+        }
         let ended = self.begun(alloc, batch)?;
         self.go_on(u, id, first, ended)
     }
@@ -212,6 +228,17 @@ impl State {
         ensures refused { IsTrue (not (may self.old tentative)) → (result ≡ Err Fault.Unfit) × (self.new ≡ self.old) }
         ensures adopted { IsTrue (may self.old tentative) → IfErr result (λ fault. fault ≡ Fault.NoMemory) }
     {
+        if self.away {
+            self.away = false;
+            let fits = tentative.before().number() == self.chain.tip().number()
+                && tentative.before().token() == self.chain.tip().token()
+                && self.chain.len() < MOST_MEMBERS;
+            if !fits {
+                drop(tentative);
+                return Err(Fault::Unfit);
+            }
+            return Ok(self.complete(u, id, Vec::new(alloc), tentative)?);
+        }
         if !self.may_adopt(&tentative) {
             tentative.undo();
             return Err(Fault::Unfit);

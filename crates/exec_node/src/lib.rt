@@ -16,7 +16,6 @@
 mod laws;
 mod node;
 mod record;
-mod witness;
 
 pub use laws::{
     a_run_is_played, linked_chains_stay_linked, records_outlive_a_crash,

@@ -5,7 +5,7 @@ ghost use Rattle.exec_node.specs.Executor.{StoredExecutor};
 
 use crate::record::read_back;
 use decrees::Letter;
-use exec_lines::{Body, ExecutorRecord, Input, Job, Outcome, State};
+use exec_lines::{Body, Errand, ExecutorRecord, Input, Job, Outcome, State};
 use keeper::{Keeper, save_record};
 use proto::Fault;
 use round::Gate;
@@ -450,6 +450,11 @@ impl<K: Keeper<ExecutorRecord>> ExecNode<K> {
         ensures { result.now ≡ self.now.state }
     {
         &self.state
+    }
+
+    /// What is to be executed elsewhere, once.
+    pub fn take_errand(&mut self) -> Option<Errand> {
+        self.state.take_errand()
     }
 
     /// Lends the keeper.

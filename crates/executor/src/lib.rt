@@ -33,7 +33,6 @@ mod parallel;
 mod record_laws;
 mod saved_member;
 mod tentative;
-mod witness;
 mod work;
 
 pub use crate::base_state::Base;

@@ -43,6 +43,18 @@ impl Model for Tentative {
         × AreSameBeside t.may_differ t.before.state.items t.after.state.items };
 }
 
+impl Drop for Tentative {
+    fn drop(self) {
+        let Tentative {
+            before: _,
+            batch: _,
+            after: _,
+            replies: _,
+            may_differ: _,
+        } = self;
+    }
+}
+
 /// A state that the verifiers decided on, and the replies of the batch that led to it.
 pub struct Committed {
     pub(crate) base: Base,

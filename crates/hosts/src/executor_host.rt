@@ -4,7 +4,8 @@ ghost use Rattle.std.specs.Prelude.{◌≡◌, ◌<◌, ◌≤◌, ◌*◌};
 
 use crate::held::{hold, is_order};
 use decrees::Letter;
-use exec_lines::{Body, ExecutorRecord, Input};
+use exec_lines::{Body, Errand, ExecutorRecord, Input};
+use executor::Tentative;
 use keeper::MemKeeper;
 use std::alloc::Global;
 use std::marker::Model;
@@ -21,6 +22,14 @@ pub struct ExecutorHost {
     pub(crate) held: Vec<Letter<Body>>,
     /// What the last run of a job sent, until it is collected.
     sent: Vec<Letter<Body>>,
+    late: Vec<Letter<Body>>,
+}
+
+fn is_ballot(letter: &Letter<Body>) -> bool {
+    match &letter.body {
+        Body::Ballot(_) => true,
+        _ => false,
+    }
 }
 
 impl Model for ExecutorHost {
@@ -54,6 +63,7 @@ impl ExecutorHost {
             slot: ExecutorSlot::unopened(),
             held: Vec::new(alloc),
             sent: Vec::new(alloc),
+            late: Vec::new(alloc),
         }
     }
 
@@ -65,6 +75,7 @@ impl ExecutorHost {
             slot: ExecutorSlot::down(keeper),
             held: Vec::new(alloc),
             sent: Vec::new(alloc),
+            late: Vec::new(alloc),
         }
     }
 
@@ -96,6 +107,10 @@ impl ExecutorHost {
             let is_held = hold(&mut self.held, letter);
             return (is_held, Vec::new(alloc));
         }
+        if is_ballot(&letter) && self.waits() {
+            let _ = self.late.push(letter);
+            return (true, Vec::new(alloc));
+        }
         (true, self.slot.settle(alloc, Input::Letter(letter)))
     }
 
@@ -118,7 +133,41 @@ impl ExecutorHost {
     pub fn collect(&mut self, alloc: Global) -> Vec<Letter<Body>>
         ensures { HostCollects self.old self.new result.items }
     {
-        mem::replace(&mut self.sent, Vec::new(alloc))
+        let mut sent = mem::replace(&mut self.sent, Vec::new(alloc));
+        self.flush(alloc, &mut sent);
+        sent
+    }
+
+    /// What is to be executed elsewhere, once.
+    pub fn take_errand(&mut self) -> Option<Errand> {
+        self.slot.take_errand()
+    }
+
+    fn flush(&mut self, alloc: Global, sent: &mut Vec<Letter<Body>>) {
+        let late = mem::replace(&mut self.late, Vec::new(alloc));
+        for letter in late {
+            if self.waits() {
+                let _ = self.late.push(letter);
+                continue;
+            }
+            for one in self.slot.settle(alloc, Input::Letter(letter)) {
+                let _ = sent.push(one);
+            }
+        }
+    }
+
+    fn waits(&self) -> bool {
+        match self.slot.node() {
+            Some(node) => node.state().waits_for_work(!self.held.is_empty()),
+            None => false,
+        }
+    }
+
+    /// What was made elsewhere.
+    pub fn adopt(&mut self, alloc: Global, tentative: Tentative) -> Vec<Letter<Body>> {
+        let mut sent = self.slot.settle(alloc, Input::Adopt(tentative));
+        self.flush(alloc, &mut sent);
+        sent
     }
 
     /// Whether the executor is up.
@@ -130,8 +179,14 @@ impl ExecutorHost {
 
     /// Ends it.
     pub fn end(self) {
-        let ExecutorHost { slot, held, sent } = self;
+        let ExecutorHost {
+            slot,
+            held,
+            sent,
+            late,
+        } = self;
         slot.end();
+        drop(late);
         drop(held);
         drop(sent);
     }

@@ -9,7 +9,7 @@ use decrees::Letter;
 use exec_lines::Body;
 
 /// The most orders that wait for their turn in one host.
-pub const MOST_HELD: usize = 8;
+pub const MOST_HELD: usize = 64;
 
 /// The epoch and the number of an order. None: the letter is no order.
 fn order_of(letter: &Letter<Body>) -> Option<(u64, u64)>

@@ -12,7 +12,6 @@ mod chain;
 mod chain_record;
 mod saved_chain;
 mod standing;
-mod witness;
 
 pub use chain::{Chain, MOST_MEMBERS};
 pub use saved_chain::SavedChain;

@@ -3,9 +3,9 @@
 ghost use Rattle.std.specs.Prelude.{◌≡◌};
 ghost use Rattle.server.specs.Answering.{message_of, IsLastMessage, IsSaidOf};
 
-use event_loop::{Heard, Said, Serve};
+use event_loop::{Heard, Labour, Said, Serve};
 use figures::Figures;
-use service::{Fault, Service, ServiceRecord};
+use service::{Fault, Hand, Service, ServiceRecord};
 use std::alloc::Global;
 use std::collections::VecDeque;
 use std::marker::Model;
@@ -260,7 +260,35 @@ impl Answering {
     }
 }
 
+/// A hand of an executor.
+#[derive(Drop)]
+pub struct Helper {
+    hand: Hand,
+}
+
+impl Labour for Helper {
+    fn labour<R: Threads + Wait + Sync>(&mut self, rt: &R) -> bool {
+        self.hand.labour(rt)
+    }
+}
+
+impl Answering {
+    /// What is to work beside it, once each.
+    pub fn helper(&mut self) -> Option<Helper> {
+        match self.service.hand() {
+            Some(hand) => Some(Helper { hand }),
+            None => None,
+        }
+    }
+}
+
 impl Serve for Answering {
+    type Hand = Helper;
+
+    fn hand(&mut self) -> Option<Helper> {
+        self.helper()
+    }
+
     ghost use denote.Param.Send.{IsSync};
     ghost use Rattle.std.specs.Prelude.{◌≡◌, ◌⊎◌, ℕ, [], true, false};
     ghost use Rattle.service.specs.Steps.{NoneWaits};

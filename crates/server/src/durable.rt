@@ -5,7 +5,7 @@ ghost use denote.Param.Send.{IsSync};
 ghost use Rattle.server.specs.Answering.{DoesWhatIsDue};
 ghost use Rattle.server.specs.Durable.{IsFoundOf};
 
-use crate::answering::Answering;
+use crate::answering::{Answering, Helper};
 use crate::save::{Save, SaveFolders};
 use event_loop::{Heard, Said, Serve};
 use figures::{Figures, Histogram, Saves, one_more};
@@ -314,6 +314,12 @@ impl<S: Save> DurableService<S> {
 }
 
 impl<S: Save> Serve for DurableService<S> {
+    type Hand = Helper;
+
+    fn hand(&mut self) -> Option<Helper> {
+        self.answering.helper()
+    }
+
     ghost use denote.Param.Send.{IsSync};
     ghost use Rattle.std.specs.Prelude.{◌≡◌, ◌≢◌, ◌⊎◌, ℕ, [], true, false};
     ghost use Rattle.service.specs.Steps.{NoneWaits};

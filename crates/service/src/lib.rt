@@ -37,7 +37,7 @@ mod working;
 
 pub use assignment::Assignment;
 pub use connections::{Dialect, MOST_SLOTS, MOST_UNWRITTEN, Said};
-pub use ensemble::{Config, Replica};
+pub use ensemble::{Config, Hand, Replica};
 pub use figures::Figures;
 pub use incidents::Incidents;
 pub use limit::Limit;

@@ -10,7 +10,7 @@ use crate::nodes::Nodes;
 use crate::note::Waiting;
 use crate::pool::Pool;
 use connections::{ConnectionId, Connections, Dialect, Said};
-use ensemble::{Config, Ensemble};
+use ensemble::{Config, Ensemble, Hand};
 use figures::Figures;
 use http_server::Log;
 use proto::Fault;
@@ -287,6 +287,11 @@ impl Service {
     {
         self.connections.always();
         self.ensemble.shows();
+    }
+
+    /// The hand of an executor, to be put into a thread of its own.
+    pub fn hand(&mut self) -> Option<Hand> {
+        self.ensemble.hand()
     }
 
     /// Ends it.

@@ -415,6 +415,7 @@ impl Service {
     {
         let mut said = Vec::new(alloc);
         self.note(alloc, moment);
+        self.ensemble.hurry(rt, alloc, moment);
         self.passes(rt, clock, alloc, moment, &mut said);
         self.count_times();
         said

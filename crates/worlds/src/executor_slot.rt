@@ -6,8 +6,9 @@ ghost use Rattle.worlds.specs.UpSlots.{executor_up};
 
 use crate::kept_node::KeptNode;
 use crate::node_slot::NodeSlot;
+use crate::slot::Slot;
 use decrees::Letter;
-use exec_lines::{Body, ExecutorRecord, Input};
+use exec_lines::{Body, Errand, ExecutorRecord, Input};
 use exec_node::{ExecNode, unfit_input_changes_nothing};
 use keeper::MemKeeper;
 use proto::Fault;
@@ -91,6 +92,16 @@ impl KeptNode for ExecNode<MemKeeper<ExecutorRecord>> {
                 *keeper = left;
                 None
             }
+        }
+    }
+}
+
+impl NodeSlot<KeptExecutor> {
+    /// What is to be executed elsewhere, once.
+    pub fn take_errand(&mut self) -> Option<Errand> {
+        match &mut self.slot {
+            Slot::Up(node) => node.take_errand(),
+            _ => None,
         }
     }
 }
