@@ -25,7 +25,7 @@ use clap::error::ErrorKind;
 use daemon::{Settings, read_settings};
 use server::NoFolder;
 use std::process::ExitCode;
-use words::{WordsFault, words_of};
+use command_line::{WordsFault, words_of};
 
 /// Memory ran out before it served.
 pub const REFUSED: u8 = 1;

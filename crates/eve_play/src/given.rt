@@ -2,7 +2,7 @@
 
 use clap::{Arg, ArgAction, Command};
 use std::alloc::Global;
-use words::WordsFault;
+use command_line::WordsFault;
 
 /// The one word FILE.
 pub fn file_of<'a>(alloc: Global, words: &'a [String]) -> Result<&'a str, WordsFault> {

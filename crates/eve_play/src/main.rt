@@ -11,10 +11,10 @@ mod given;
 
 use crate::dial::Dial;
 use crate::given::file_of;
-use app::{REFUSED, STREAM_FAILED, play_text};
+use schedule_player::{REFUSED, STREAM_FAILED, play_text};
 use std::process::ExitCode;
 use std::{fs, io};
-use words::{WordsFault, words_of};
+use command_line::{WordsFault, words_of};
 
 const USAGE: u8 = 2;
 

@@ -4,7 +4,7 @@ ghost use Rattle.std.specs.Prelude.{◌<◌};
 
 use clap::{Arg, ArgAction, Command};
 use std::alloc::Global;
-use words::WordsFault;
+use command_line::WordsFault;
 
 /// On which port it is to listen, and how many nodes of each kind may be lost.
 #[derive(Clone, Copy)]

@@ -13,7 +13,7 @@ use service_laws::{replicas_agree_and_keep, service_is_linearizable};
 use std::io;
 use std::net::{Ipv4Addr, SocketAddr, SocketAddrV4, TcpListener};
 use std::process::ExitCode;
-use words::{WordsFault, words_of};
+use command_line::{WordsFault, words_of};
 
 const REFUSED: u8 = 1;
 

@@ -1,7 +1,7 @@
 //! Blocks at their limit.
 
 use crate::played::played;
-use app::SHOWN;
+use schedule_player::SHOWN;
 use std::alloc::{AllocError, Global};
 use std::test::Fail;
 

@@ -15,8 +15,8 @@ use Rattle.exec_lines.specs.declared.body.Body.TheVariants as body
 use Rattle.client.specs.Talk.{wants}
 use Rattle.verifier.specs.declared.input.Input.TheVariants as verifier_input
 use Rattle.verifier.specs.Verifier.{VerifierView}
-use Rattle.worlds.specs.Slot.{Slot}
-use Rattle.worlds.specs.World.{as_sent}
+use Rattle.slots.specs.Slot.{Slot}
+use Rattle.slots.specs.Sending.{as_sent}
 use Rattle.proxies.specs.Proxy.{ProxyView, asks, answers}
 use Rattle.hosts.specs.Host.{HostView, LettersAreAmong, HostTakes}
 use Rattle.ensemble.specs.declared.answer.Answer.{Answer}

@@ -6,7 +6,7 @@ use proto::Fault;
 use std::alloc::Global;
 use std::test::Fail;
 use world::World;
-use worlds::Status;
+use slots::Status;
 
 /// Executor 2 is the first to execute each batch.
 const EXECUTOR_2_FIRST: [Done; 8] = [
