@@ -1,6 +1,6 @@
 //! How far the play is, for whoever looks at standard error.
 
-use schedule_player::Progress;
+use app::Progress;
 use std::io::IsTerminal;
 use std::time::Instant;
 

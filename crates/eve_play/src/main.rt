@@ -11,7 +11,7 @@ mod given;
 
 use crate::dial::Dial;
 use crate::given::file_of;
-use schedule_player::{REFUSED, STREAM_FAILED, play_text};
+use app::{REFUSED, STREAM_FAILED, play_text};
 use std::process::ExitCode;
 use std::{fs, io};
 use command_line::{WordsFault, words_of};

@@ -1,6 +1,6 @@
 //! A row: a schedule, and what is to be printed of it in its last lines.
 
-use schedule_player::{SHOWN, Untold, play_text};
+use app::{SHOWN, Untold, play_text};
 use std::alloc::{AllocError, Global};
 
 /// What is to be printed: what is behind `#> ` in the lines that begin so.

@@ -1,7 +1,7 @@
 //! Blocks at their limit.
 
 use crate::played::played;
-use schedule_player::SHOWN;
+use app::SHOWN;
 use std::alloc::{AllocError, Global};
 use std::test::Fail;
 

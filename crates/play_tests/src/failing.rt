@@ -1,6 +1,6 @@
 //! Streams that are cut, interrupted, or fail.
 
-use schedule_player::{REFUSED, SHOWN, STREAM_FAILED, Untold, play_text};
+use app::{REFUSED, SHOWN, STREAM_FAILED, Untold, play_text};
 use std::io;
 use std::io::{ErrorKind, Read, Write};
 use std::test::Fail;

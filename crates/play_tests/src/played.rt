@@ -1,6 +1,6 @@
 //! A schedule that is played in memory.
 
-use schedule_player::{Untold, play_text};
+use app::{Untold, play_text};
 use std::alloc::Global;
 
 /// How it ended, and what was written.

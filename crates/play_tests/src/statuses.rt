@@ -1,7 +1,7 @@
 //! How a play ends, and what it prints then.
 
 use crate::played::played;
-use schedule_player::{REFUSED, SHOWN};
+use app::{REFUSED, SHOWN};
 use std::test::Fail;
 
 #[test]

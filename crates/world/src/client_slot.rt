@@ -37,7 +37,7 @@ impl ClientSlot {
     ghost use Rattle.worlds.specs.Clients.{ClientSettles, is_client_open};
 
     /// Of the client of this number, of which nothing came yet, before `2u + 1` executors.
-    pub fn new(alloc: Global, client: u16, u: u8) -> ClientSlot
+    pub(crate) fn new(alloc: Global, client: u16, u: u8) -> ClientSlot
         requires numbered { 1 ≤ client }
         requires few { u < 4 }
         ensures { result ≡ record { client = record { client = client; u = u; talk = new_talk; up = true }; given = [] } }
@@ -52,7 +52,7 @@ impl ClientSlot {
     /// error it stops, and nothing is sent or given. The only error of this call is that there was no memory for
     /// what its client is given: then that and what it sends are lost, and its world is to be ended.
     #[tactic(auto, using(crate::proofs::ClientLemmas::client_does, crate::proofs::ClientLemmas::client_stops))]
-    pub fn settle(&mut self, alloc: Global, input: Input) -> Result<Vec<Letter<Body>>, AllocError>
+    pub(crate) fn settle(&mut self, alloc: Global, input: Input) -> Result<Vec<Letter<Body>>, AllocError>
         ensures { IfOk result (λ letters. ClientSettles self.old input self.new letters.items) }
     {
         match self.client.handle(alloc, input) {
