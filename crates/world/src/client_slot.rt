@@ -52,7 +52,11 @@ impl ClientSlot {
     /// error it stops, and nothing is sent or given. The only error of this call is that there was no memory for
     /// what its client is given: then that and what it sends are lost, and its world is to be ended.
     #[tactic(auto, using(crate::proofs::ClientLemmas::client_does, crate::proofs::ClientLemmas::client_stops))]
-    pub(crate) fn settle(&mut self, alloc: Global, input: Input) -> Result<Vec<Letter<Body>>, AllocError>
+    pub(crate) fn settle(
+        &mut self,
+        alloc: Global,
+        input: Input,
+    ) -> Result<Vec<Letter<Body>>, AllocError>
         ensures { IfOk result (λ letters. ClientSettles self.old input self.new letters.items) }
     {
         match self.client.handle(alloc, input) {
