@@ -4,6 +4,7 @@ ghost use Rattle.std.specs.Prelude.{◌≡◌, ◌<◌, ◌≤◌, true};
 
 use crate::asked::Asked;
 use crate::input::Input;
+use crate::seat::Seat;
 use crate::talk::Talk;
 use decrees::Letter;
 use exec_lines::Body;
@@ -13,8 +14,7 @@ use std::marker::Model;
 
 /// The part of the server that a client talks with.
 pub struct Client {
-    client: u16,
-    u: u8,
+    seat: Seat,
     talk: Talk,
     stopped: bool,
 }
@@ -22,8 +22,7 @@ pub struct Client {
 impl Drop for Client {
     fn drop(self) {
         let Client {
-            client: _,
-            u: _,
+            seat: _,
             talk: _,
             stopped: _,
         } = self;
@@ -36,9 +35,7 @@ impl Model for Client {
 
     ghost Value = { ClientView };
 
-    ghost view = { λ c. record { client = c.client; u = c.u; talk = c.talk; up = not c.stopped } };
-
-    ghost invariant = { λ c. (1 ≤ c.client) × (c.u < 4) };
+    ghost view = { λ c. record { client = c.seat.client; u = c.seat.u; talk = c.talk; up = not c.stopped } };
 }
 
 impl Client {
@@ -55,8 +52,7 @@ impl Client {
         ensures { result ≡ record { client = client; u = u; talk = new_talk; up = true } }
     {
         Client {
-            client,
-            u,
+            seat: Seat::new(client, u),
             talk: Talk::new(alloc),
             stopped: false,
         }
@@ -89,7 +85,7 @@ impl Client {
         if self.stopped {
             return Err(Fault::Stopped);
         }
-        let given = self.talk.step(alloc, self.u, self.client, input);
+        let given = self.talk.step(alloc, self.seat, input);
         self.stopped = given.is_err();
         given
     }

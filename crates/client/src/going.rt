@@ -5,6 +5,7 @@ ghost use Rattle.client.specs.Talk.{next_request, wants, go as taken, go_on as w
 
 use crate::asked::Asked;
 use crate::letters::ask_all;
+use crate::seat::Seat;
 use crate::talk::Talk;
 use decrees::Letter;
 use exec_lines::Body;
@@ -17,25 +18,22 @@ impl Talk {
     fn ask(
         &mut self,
         alloc: Global,
-        u: u8,
-        client: u16,
+        seat: Seat,
         command: Command,
         quiet: bool,
     ) -> Result<Vec<Letter<Body>>, Fault>
-        requires numbered { 1 ≤ client }
-        requires few { u < 4 }
-        ensures talk { OnOk result (self.new ≡ record self.old { last = self.old.last + 1; outstanding = Some (record { request = next_request client self.old.last command; quiet = quiet }) }) }
-        ensures letters { IfOk result (λ letters. letters.items ≡ wants u client (next_request client self.old.last command)) }
+        ensures talk { OnOk result (self.new ≡ record self.old { last = self.old.last + 1; outstanding = Some (record { request = next_request seat.client self.old.last command; quiet = quiet }) }) }
+        ensures letters { IfOk result (λ letters. letters.items ≡ wants seat.u seat.client (next_request seat.client self.old.last command)) }
         ensures stopped { result ≡ Err Fault.Stopped → self.old.last + 1 ≡ 2 ^ 64 }
         ensures only { IfErr result (λ fault. (fault ≡ Fault.NoMemory) ⊎ (fault ≡ Fault.Stopped)) }
     {
         let number = self.last.checked_add(1).ok_or(Fault::Stopped)?;
         let request = Request {
-            client,
+            client: seat.client(),
             number,
             command,
         };
-        let letters = ask_all(alloc, u, client, &request)?;
+        let letters = ask_all(alloc, seat, &request)?;
         self.last = number;
         self.outstanding = Some(Asked { request, quiet });
         Ok(letters)
@@ -46,14 +44,11 @@ impl Talk {
     fn go(
         &mut self,
         alloc: Global,
-        u: u8,
-        client: u16,
+        seat: Seat,
         bytes: &mut Vec<u8>,
     ) -> Result<Vec<Letter<Body>>, Fault>
-        requires numbered { 1 ≤ client }
-        requires few { u < 4 }
-        ensures ok { IfOk result (λ letters. record { talk = self.new; letters = letters.items; bytes = bytes.new.items } ≡ taken u client self.old bytes.old.items self.old.waiting) }
-        ensures stopped { result ≡ Err Fault.Stopped → (taken u client self.old bytes.old.items self.old.waiting).talk.last ≡ 2 ^ 64 }
+        ensures ok { IfOk result (λ letters. record { talk = self.new; letters = letters.items; bytes = bytes.new.items } ≡ taken seat.u seat.client self.old bytes.old.items self.old.waiting) }
+        ensures stopped { result ≡ Err Fault.Stopped → (taken seat.u seat.client self.old bytes.old.items self.old.waiting).talk.last ≡ 2 ^ 64 }
         ensures only { IfErr result (λ fault. (fault ≡ Fault.NoMemory) ⊎ (fault ≡ Fault.Stopped)) }
     {
         while let Some(turn) = self.waiting.take() {
@@ -65,7 +60,7 @@ impl Talk {
                     self.closed = true;
                     return Ok(Vec::new(alloc));
                 }
-                Turn::Ask(command, quiet) => return self.ask(alloc, u, client, command, quiet),
+                Turn::Ask(command, quiet) => return self.ask(alloc, seat, command, quiet),
             }
         }
         Ok(Vec::new(alloc))
@@ -75,19 +70,16 @@ impl Talk {
     pub(crate) fn go_on(
         &mut self,
         alloc: Global,
-        u: u8,
-        client: u16,
+        seat: Seat,
         bytes: &mut Vec<u8>,
     ) -> Result<Vec<Letter<Body>>, Fault>
-        requires numbered { 1 ≤ client }
-        requires few { u < 4 }
-        ensures ok { IfOk result (λ letters. record { talk = self.new; letters = letters.items; bytes = bytes.new.items } ≡ went_on u client self.old bytes.old.items) }
-        ensures stopped { result ≡ Err Fault.Stopped → (went_on u client self.old bytes.old.items).talk.last ≡ 2 ^ 64 }
+        ensures ok { IfOk result (λ letters. record { talk = self.new; letters = letters.items; bytes = bytes.new.items } ≡ went_on seat.u seat.client self.old bytes.old.items) }
+        ensures stopped { result ≡ Err Fault.Stopped → (went_on seat.u seat.client self.old bytes.old.items).talk.last ≡ 2 ^ 64 }
         ensures only { IfErr result (λ fault. (fault ≡ Fault.NoMemory) ⊎ (fault ≡ Fault.Stopped)) }
     {
         if self.closed || self.outstanding.is_some() {
             return Ok(Vec::new(alloc));
         }
-        self.go(alloc, u, client, bytes)
+        self.go(alloc, seat, bytes)
     }
 }

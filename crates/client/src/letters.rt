@@ -5,6 +5,7 @@ ghost use Rattle.decrees.specs.declared.node.Node.TheVariants.{Executor};
 ghost use Rattle.exec_lines.specs.declared.body.Body.TheVariants.{Want};
 ghost use Rattle.client.specs.Talk.{client_letter, wants};
 
+use crate::seat::Seat;
 use decrees::{Letter, Node};
 use exec_lines::Body;
 use sessions::Request;
@@ -38,17 +39,15 @@ pub fn ask_one(
 /// The request, to all executors. They share the data of its block. NoMemory: an allocation failed.
 pub fn ask_all(
     alloc: Global,
-    u: u8,
-    client: u16,
+    seat: Seat,
     request: &Request,
 ) -> Result<Vec<Letter<Body>>, AllocError>
-    requires { u < 4 }
-    ensures { IfOk result (λ letters. letters.items ≡ wants u client request.now) }
+    ensures { IfOk result (λ letters. letters.items ≡ wants seat.u seat.client request.now) }
 {
-    let members = 2 * u + 1;
+    let members = seat.members();
     let mut letters = Vec::with_capacity(alloc, usize::from(members))?;
     for to in 0..members {
-        letters.push(want(client, to, request.clone()?))?;
+        letters.push(want(seat.client(), to, request.clone()?))?;
     }
     Ok(letters)
 }

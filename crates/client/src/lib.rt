@@ -13,6 +13,7 @@ mod input;
 mod laws;
 mod letters;
 mod lines;
+mod seat;
 mod talk;
 mod turns;
 

@@ -8,6 +8,7 @@ ghost use Rattle.client.specs.Step.{IsFed, on_reply as reply_line, on_again as a
 
 use crate::input::Input;
 use crate::letters::ask_all;
+use crate::seat::Seat;
 use crate::talk::Talk;
 use decrees::Letter;
 use exec_lines::Body;
@@ -27,15 +28,12 @@ impl Talk {
     fn on_feed(
         &mut self,
         alloc: Global,
-        u: u8,
-        client: u16,
+        seat: Seat,
         piece: &[u8],
     ) -> Result<(Vec<Letter<Body>>, Vec<u8>), Fault>
-        requires numbered { 1 ≤ client }
-        requires few { u < 4 }
-        ensures done { IfOk result (λ r. IsFed u client self.old piece.now (record { talk = self.new; letters = r.0.items; bytes = r.1.items })) }
+        ensures done { IfOk result (λ r. IsFed seat.u seat.client self.old piece.now (record { talk = self.new; letters = r.0.items; bytes = r.1.items })) }
         ensures fits_none { IsTrue self.old.closed → IsOk result }
-        ensures stopped { result ≡ Err Fault.Stopped → (g : Given) × IsFed u client self.old piece.now g × (g.talk.last ≡ 2 ^ 64) }
+        ensures stopped { result ≡ Err Fault.Stopped → (g : Given) × IsFed seat.u seat.client self.old piece.now g × (g.talk.last ≡ 2 ^ 64) }
         ensures only { IfErr result (λ fault. (fault ≡ Fault.NoMemory) ⊎ (fault ≡ Fault.Stopped)) }
     {
         if self.closed {
@@ -44,7 +42,7 @@ impl Talk {
         let turns = self.reader.feed(alloc, piece)?;
         self.waiting.add(turns)?;
         let mut bytes = Vec::new(alloc);
-        let letters = self.go_on(alloc, u, client, &mut bytes)?;
+        let letters = self.go_on(alloc, seat, &mut bytes)?;
         Ok((letters, bytes))
     }
 
@@ -52,15 +50,12 @@ impl Talk {
     fn answer(
         &mut self,
         alloc: Global,
-        u: u8,
-        client: u16,
+        seat: Seat,
         reply: &Reply,
         quiet: bool,
     ) -> Result<(Vec<Letter<Body>>, Vec<u8>), Fault>
-        requires numbered { 1 ≤ client }
-        requires few { u < 4 }
-        ensures done { IfOk result (λ r. record { talk = self.new; letters = r.0.items; bytes = r.1.items } ≡ went_on u client (record self.old { outstanding = None }) (given_text reply.now quiet)) }
-        ensures stopped { result ≡ Err Fault.Stopped → (went_on u client (record self.old { outstanding = None }) (given_text reply.now quiet)).talk.last ≡ 2 ^ 64 }
+        ensures done { IfOk result (λ r. record { talk = self.new; letters = r.0.items; bytes = r.1.items } ≡ went_on seat.u seat.client (record self.old { outstanding = None }) (given_text reply.now quiet)) }
+        ensures stopped { result ≡ Err Fault.Stopped → (went_on seat.u seat.client (record self.old { outstanding = None }) (given_text reply.now quiet)).talk.last ≡ 2 ^ 64 }
         ensures only { IfErr result (λ fault. (fault ≡ Fault.NoMemory) ⊎ (fault ≡ Fault.Stopped)) }
     {
         let mut bytes = Vec::new(alloc);
@@ -68,7 +63,7 @@ impl Talk {
             write_reply(reply, &mut bytes)?;
         }
         self.outstanding = None;
-        let letters = self.go_on(alloc, u, client, &mut bytes)?;
+        let letters = self.go_on(alloc, seat, &mut bytes)?;
         Ok((letters, bytes))
     }
 
@@ -76,40 +71,35 @@ impl Talk {
     fn on_reply(
         &mut self,
         alloc: Global,
-        u: u8,
-        client: u16,
+        seat: Seat,
         number: u64,
         reply: &Reply,
     ) -> Result<(Vec<Letter<Body>>, Vec<u8>), Fault>
-        requires numbered { 1 ≤ client }
-        requires few { u < 4 }
-        ensures done { IfOk result (λ r. record { talk = self.new; letters = r.0.items; bytes = r.1.items } ≡ reply_line u client self.old number reply.now) }
+        ensures done { IfOk result (λ r. record { talk = self.new; letters = r.0.items; bytes = r.1.items } ≡ reply_line seat.u seat.client self.old number reply.now) }
         ensures fits_none { IsTrue (not (is_asked self.old.outstanding number)) → IsOk result }
-        ensures stopped { result ≡ Err Fault.Stopped → (reply_line u client self.old number reply.now).talk.last ≡ 2 ^ 64 }
+        ensures stopped { result ≡ Err Fault.Stopped → (reply_line seat.u seat.client self.old number reply.now).talk.last ≡ 2 ^ 64 }
         ensures only { IfErr result (λ fault. (fault ≡ Fault.NoMemory) ⊎ (fault ≡ Fault.Stopped)) }
     {
         let quiet = match &self.outstanding {
             Some(asked) if asked.request.number == number => asked.quiet,
             _ => return Ok(nothing(alloc)),
         };
-        self.answer(alloc, u, client, reply, quiet)
+        self.answer(alloc, seat, reply, quiet)
     }
 
     /// What is outstanding is to be asked again.
     fn on_again(
         &self,
         alloc: Global,
-        u: u8,
-        client: u16,
+        seat: Seat,
     ) -> Result<(Vec<Letter<Body>>, Vec<u8>), AllocError>
-        requires few { u < 4 }
-        ensures done { IfOk result (λ r. record { talk = self.now; letters = r.0.items; bytes = r.1.items } ≡ again_line u client self.now) }
+        ensures done { IfOk result (λ r. record { talk = self.now; letters = r.0.items; bytes = r.1.items } ≡ again_line seat.u seat.client self.now) }
         ensures fits_none { self.now.outstanding ≡ None → IsOk result }
     {
         match &self.outstanding {
             None => Ok(nothing(alloc)),
             Some(asked) => {
-                let letters = ask_all(alloc, u, client, &asked.request)?;
+                let letters = ask_all(alloc, seat, &asked.request)?;
                 Ok((letters, Vec::new(alloc)))
             }
         }
@@ -129,22 +119,19 @@ impl Talk {
     pub(crate) fn step(
         &mut self,
         alloc: Global,
-        u: u8,
-        client: u16,
+        seat: Seat,
         input: Input,
     ) -> Result<(Vec<Letter<Body>>, Vec<u8>), Fault>
-        requires numbered { 1 ≤ client }
-        requires few { u < 4 }
-        ensures done { IfOk result (λ r. IsClientStep u client self.old input (record { talk = self.new; letters = r.0.items; bytes = r.1.items })) }
+        ensures done { IfOk result (λ r. IsClientStep seat.u seat.client self.old input (record { talk = self.new; letters = r.0.items; bytes = r.1.items })) }
         ensures fits_none { IsTrue (not (fits_talk self.old input)) → IsOk result }
         ensures hangs_up { input ≡ Hangup → IsOk result }
-        ensures stopped { result ≡ Err Fault.Stopped → IsOutOfNumbers u client self.old input }
+        ensures stopped { result ≡ Err Fault.Stopped → IsOutOfNumbers seat.u seat.client self.old input }
         ensures only { IfErr result (λ fault. (fault ≡ Fault.NoMemory) ⊎ (fault ≡ Fault.Stopped)) }
     {
         match input {
-            Input::Feed(piece) => self.on_feed(alloc, u, client, piece.as_slice()),
-            Input::Reply { number, reply } => self.on_reply(alloc, u, client, number, &reply),
-            Input::Again => Ok(self.on_again(alloc, u, client)?),
+            Input::Feed(piece) => self.on_feed(alloc, seat, piece.as_slice()),
+            Input::Reply { number, reply } => self.on_reply(alloc, seat, number, &reply),
+            Input::Again => Ok(self.on_again(alloc, seat)?),
             Input::Hangup => Ok(self.on_hangup(alloc)),
         }
     }

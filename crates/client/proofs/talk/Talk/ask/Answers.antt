@@ -12,9 +12,9 @@ asked_is t a b last other quiet e n = λ i. record t { last = n i; outstanding =
 pub returns-clause-talk : goal.returns-clause-talk
 returns-clause-talk c =
     let number : c.in_ok-number.number ≡ c.args.self.now.last + 1 = search rules in
-    asked_is c.args.self.now _ _ _ _ _ (made_next _ c.args.client c.args.self.now.last c.args.command c.requires.numbered refl number refl) number
+    asked_is c.args.self.now _ _ _ _ _ (made_next _ c.args.seat.client c.args.self.now.last c.args.command c.args.seat.numbered refl number refl) number
 
 pub returns-clause-letters : goal.returns-clause-letters
 returns-clause-letters c =
     let number : c.in_ok-number.number ≡ c.args.self.now.last + 1 = search rules in
-    c.in_ok-letters.ensures ∙ ap (wants c.args.u c.args.client) (made_next _ c.args.client c.args.self.now.last c.args.command c.requires.numbered refl number refl)
+    c.in_ok-letters.ensures ∙ ap (wants c.args.seat.u c.args.seat.client) (made_next _ c.args.seat.client c.args.self.now.last c.args.command c.args.seat.numbered refl number refl)
