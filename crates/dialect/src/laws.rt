@@ -20,12 +20,16 @@ ghost use Rattle.dialect.specs.declared.turn.Turn.{Turn};
 ghost use Rattle.dialect.specs.declared.line.ReadVerb.{ReadVerb};
 
 /// One list of bytes spells one list of turns.
+///
+/// No code calls it: it is for readers.
 pub fn one_list_is_spelled()
     ensures some { (bytes : List ℕ) → (turns : List Turn) × Spells bytes turns }
     ensures one { (bytes : List ℕ) (turns others : List Turn) → Spells bytes turns → Spells bytes others → turns ≡ others }
 {}
 
 /// Longer bytes spell a list that begins with what the shorter ones spell.
+///
+/// No code calls it: it is for readers.
 pub fn longer_bytes_spell_more()
     ensures { (bytes more : List ℕ) (turns later : List Turn) → Spells bytes turns → Spells (bytes ++ more) later
         → (added : List Turn) × (later ≡ turns ++ added) }
@@ -33,17 +37,23 @@ pub fn longer_bytes_spell_more()
 
 /// A line that says `noreply` gives no bytes, whatever the replies are, nor does the block that belongs
 /// to it, whatever its bytes are.
+///
+/// No code calls it: it is for readers.
 pub fn a_noreply_line_gives_no_bytes()
     ensures { (line : List ℕ) → IsNoreply line → AllShowNothing (meaning line).turns × PartShowsNothing (meaning line).part }
 {}
 
 /// A meta line with the flag `q` gives no byte for a reply that says that something was stored, removed or counted, or
 /// that a `mg` found nothing. Of a block that is above the limit it tells, as of all that went wrong.
+///
+/// No code calls it: it is for readers.
 pub fn a_quiet_meta_line_hides_what_is_expected()
     ensures { (line : List ℕ) → IsQuietMeta line → AllHideExpected (meaning line).turns × PartHidesExpected (meaning line).part }
 {}
 
 /// A line that is answered by a text asks nothing.
+///
+/// No code calls it: it is for readers.
 pub fn a_refused_line_asks_nothing()
     ensures line { (line : List ℕ) → speaks (meaning line).turns ≡ true → commands (meaning line).turns ≡ [] }
 
@@ -52,6 +62,8 @@ pub fn a_refused_line_asks_nothing()
 {}
 
 /// A line of many keys is as good as one command over all of them.
+///
+/// No code calls it: it is for readers.
 pub fn a_get_of_many_keys_is_one_get()
     // The keys of its commands, in order, are its keys.
     ensures keys { (r : ReadVerb) (k : List ℕ) (ks : List (List ℕ)) → list_all is_key (k ∷ ks) ≡ true → all_keys (read_turns r (k ∷ ks)) ≡ k ∷ ks }
@@ -66,6 +78,8 @@ pub fn a_get_of_many_keys_is_one_get()
 
 /// A line of the profile asks the same command in the dialect, with the same of its reply shown. A `get` asks its keys
 /// as the law above says.
+///
+/// No code calls it: it is for readers.
 pub fn a_line_of_the_profile_asks_the_same()
     ensures line { (line : List ℕ) → AsksTheSame (profile_meaning line) (meaning line) }
 

@@ -109,13 +109,6 @@ impl Tentative {
         &self.batch
     }
 
-    /// Whether the batch had to be run again in batch order: never.
-    pub fn fell_back(&self) -> bool
-        ensures { result ≡ false }
-    {
-        false
-    }
-
     /// The tentative state as a base, for the batch after its own. This takes no memory.
     pub fn as_base(&self) -> &Base
         ensures { result.now.state ≡ self.now.after }

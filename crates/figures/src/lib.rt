@@ -14,7 +14,7 @@ mod node;
 mod outcome;
 mod refusal;
 
-pub use asked::{Asked, found_in};
+pub use asked::Asked;
 pub use commands::{Commands, Outcomes};
 pub use count::{one_more, plus};
 pub use figures::{

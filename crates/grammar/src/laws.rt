@@ -19,6 +19,8 @@ ghost use Rattle.grammar.specs.declared.turn.Turn.TheVariants.{Ask};
 
 /// One list of bytes asks one list of commands. In the profile it spells one list of turns; in memcached's dialect
 /// `stats` gives some figures, which no bytes tell.
+///
+/// No code calls it: it is for readers.
 pub fn one_reading()
     ensures some { (d : Dialect) (bytes : List ℕ) → (turns : List Turn) × SpellsIn d bytes turns }
     ensures commands { (d : Dialect) (bytes : List ℕ) (turns others : List Turn) → SpellsIn d bytes turns → SpellsIn d bytes others → commands_in turns ≡ commands_in others }
@@ -26,6 +28,8 @@ pub fn one_reading()
 {}
 
 /// Longer bytes spell what the shorter ones spell, and then more; and they ask what those ask, and then more.
+///
+/// No code calls it: it is for readers.
 pub fn longer_bytes_ask_more()
     ensures turns { (d : Dialect) (bytes more : List ℕ) (turns : List Turn) → SpellsIn d bytes turns → (added : List Turn) × SpellsIn d (bytes ++ more) (turns ++ added) }
     ensures commands { (d : Dialect) (bytes more : List ℕ) (turns later : List Turn) → SpellsIn d bytes turns → SpellsIn d (bytes ++ more) later
@@ -33,22 +37,30 @@ pub fn longer_bytes_ask_more()
 {}
 
 /// With a limit that is not reached, bytes and marks ask what the bytes ask without a limit.
+///
+/// No code calls it: it is for readers.
 pub fn a_limit_that_is_not_reached_changes_nothing()
     ensures { (bytes : List ℕ) (turns : List Turn) → HasRoomThroughout bytes → SpellsIn Limited bytes turns ↔ SpellsIn Memcached (without_marks bytes) turns }
 {}
 
 /// While it is reached nothing is asked that makes an item longer, or adds one; but a number may get more digits.
+///
+/// No code calls it: it is for readers.
 pub fn a_full_server_stores_nothing()
     ensures { (turn : MemcachedTurn) → StoresNothing (turn_when true turn) }
 {}
 
 /// Each command that bytes ask has a text of its own in the profile, so that a client of the replicas can ask it.
+///
+/// No code calls it: it is for readers.
 pub fn each_command_has_a_text()
     ensures { (d : Dialect) (bytes : List ℕ) (turns : List Turn) (command : Command) (show : Show) → SpellsIn d bytes turns
         → Contains turns (Ask command show) → HasText command (is_left_out show) }
 {}
 
 /// In the profile all this is what is said of the clients of a world.
+///
+/// No code calls it: it is for readers.
 pub fn profile_is_as_before()
     ensures asked { (bytes : List ℕ) (number : ℕ) (command : Command) → IsAskedIn Profile bytes number command ↔ IsAsked bytes number command }
     ensures executed { (lines : List Line) (client : ℕ) (bytes : List ℕ) → IsExecutedFrom Profile lines client bytes ↔ IsExecutedFor lines client bytes }

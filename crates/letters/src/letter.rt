@@ -15,17 +15,6 @@ use proto::Fault;
 use std::alloc::{AllocError, Global};
 use wire::Sink;
 
-/// What is true of every letter: see `LetterFits`. It does nothing.
-pub fn is_letter(letter: &Letter<Body>)
-    ensures { LetterFits letter.now }
-{
-    match &letter.body {
-        Body::Need(need) => need.is_need(),
-        Body::Parcel(parcel) => parcel.is_parcel(),
-        Body::Want(_) | Body::Order(_) | Body::Reply { .. } | Body::Ballot(_) => {}
-    }
-}
-
 /// Writes the text of the letter to a sink: a hasher, a vector, or a text. A text shares the data of large items with the
 /// letter. An error is the sink's, which may have got a part by then.
 pub fn write<S: Sink>(letter: &Letter<Body>, sink: &mut S) -> Result<(), S::Refusal>

@@ -22,5 +22,5 @@ mod node;
 mod size;
 
 pub use laws::{letters_are_bounded, letters_are_told_apart};
-pub use letter::{is_letter, read, to_text, write};
+pub use letter::{read, to_text, write};
 pub use size::{MOST_BULK_BYTES, MOST_QUICK_BYTES, is_bulk};

@@ -20,7 +20,7 @@ mod proxy_row;
 mod stored_state;
 mod verifier_row;
 
-pub use crate::process_text::{MOST_PROXIES, ProcessText, put_process, read};
+pub use crate::process_text::{MOST_PROXIES, ProcessText, read};
 pub use executor_row::{ExecutorRow, PlainRecord, StoredRecord};
 pub use flag::TruthByte;
 pub use long_text::LongText;

@@ -11,6 +11,8 @@ ghost use Rattle.proto.specs.Grammar.{Spells, IsTurnText, next_turn};
 ghost use Rattle.proto.specs.Reader.{ReadsTurns, Reading};
 
 /// One list of bytes spells one list of turns, and leaves one rest.
+///
+/// No code calls it: it is for readers.
 pub fn one_list_is_spelled()
     ensures some { (bytes : List ℕ) → (turns : List Turn) × (rest : List ℕ) × Spells bytes turns rest }
     ensures one { (bytes : List ℕ) (turns others : List Turn) (rest left : List ℕ)
@@ -18,6 +20,8 @@ pub fn one_list_is_spelled()
 {}
 
 /// Longer bytes spell a list that begins with what the shorter ones spell.
+///
+/// No code calls it: it is for readers.
 pub fn longer_bytes_spell_more()
     ensures { (bytes more : List ℕ) (turns later : List Turn) (rest left : List ℕ)
         → Spells bytes turns rest → Spells (bytes ++ more) later left
@@ -25,6 +29,8 @@ pub fn longer_bytes_spell_more()
 {}
 
 /// What is read of a stream in pieces is what the whole of it spells.
+///
+/// No code calls it: it is for readers.
 pub fn pieces_add_up()
     // A piece after what was kept goes on as the stream does.
     ensures more { (fed piece : List ℕ) (turns more : List Turn) (old new : Reading)
@@ -40,6 +46,8 @@ pub fn pieces_add_up()
 {}
 
 /// A turn at the front of bytes has bytes of its own there, which spell just it.
+///
+/// No code calls it: it is for readers.
 pub fn a_turn_has_its_own_bytes()
     ensures own { (bytes after : List ℕ) (turn : Turn) → next_turn bytes ≡ Some (turn, after)
         → (own : List ℕ) × (bytes ≡ own ++ after) × IsTurnText own turn }

@@ -7,6 +7,8 @@ ghost use Rattle.sessions.specs.Fresh.{Replies, is_next};
 ghost use Rattle.sessions.specs.declared.request.Request.{Request};
 
 /// A request whose reply was kept does not run again.
+///
+/// No code calls it: it is for readers.
 pub fn kept_request_is_not_fresh()
     ensures { (sessions : Replies) (r : Request) (reply : Reply)
         → is_next (map.insert sessions r.client (record { number = r.number; reply = reply })) r ≡ false }

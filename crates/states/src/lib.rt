@@ -23,7 +23,6 @@ mod within;
 pub use form::{FEW_ITEMS, fits_form, form_over, layout_of};
 pub use head::Head;
 pub use origin::Origin;
-pub use page_texts::take_page;
 pub use record_laws::states_are_told_apart;
 pub use state::{Parts, State};
 pub use version::Version;

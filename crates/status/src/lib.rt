@@ -14,4 +14,4 @@ mod wanted;
 
 pub use answering::answer;
 pub use history::{History, MOST_SAMPLES, SAMPLE_SECONDS, Sample, Seen};
-pub use wanted::{MOST_FIELDS, MOST_HEAD_BYTES, Wanted, wanted_by};
+pub use wanted::{MOST_FIELDS, MOST_HEAD_BYTES, Wanted};

@@ -14,11 +14,15 @@ ghost use Rattle.token.specs.Told.{TellsSessions, told_sessions_text};
 
 /// Sessions that have one told text are the same, if digests tell the texts of their long replies
 /// apart.
+///
+/// No code calls it: it is for readers.
 pub fn told_texts_tell_sessions()
     ensures { TellsSessions }
 {}
 
 /// By its first byte a told text differs from every other text that is digested.
+///
+/// No code calls it: it is for readers.
 pub fn told_texts_are_told_apart()
     ensures page { (m : Replies) (page : List (List ℕ × Item)) → told_sessions_text m ≢ page_text page }
     ensures inner { (m : Replies) (t : InnerText) → told_sessions_text m ≢ inner_text t }
