@@ -23,3 +23,8 @@ job_of (Some w) = if is_untouched w.progress then Some (record { base = w.base; 
 abbrev pub RunsJob : ℕ → ℕ → ExecutorState → Option JobView → ExecutorOutcome → Type 0
 RunsJob u id s None o = o ≡ unchanged s
 RunsJob u id s (Some job) o = (t : TentativeView) × ComesOfWork job.base job.batch job.ordered t × (o ≡ completed u id s [] t)
+
+-- the tentative state was made of this job, and there is one
+abbrev pub IsMadeOf : Option JobView → TentativeView → Type 0
+IsMadeOf None t = ⊥
+IsMadeOf (Some job) t = ComesOfWork job.base job.batch job.ordered t

@@ -8,6 +8,7 @@
 #![tactic(auto)]
 
 mod body;
+mod errand;
 mod fetching;
 mod input;
 mod letters;
@@ -23,6 +24,7 @@ mod step;
 mod working;
 
 pub use body::Body;
+pub use errand::Errand;
 pub use input::Input;
 pub use outcome::Outcome;
 pub use record::{ExecutorRecord, Saved};

@@ -5,12 +5,13 @@ ghost use Rattle.executor.specs.GroupRun.{IsUntouched};
 ghost use Rattle.executor.specs.Work.{IsWork};
 ghost use Rattle.rollback.specs.declared.chain.TheConstants.{MOST_MEMBERS};
 ghost use Rattle.exec_lines.specs.State.{is_tip};
-ghost use Rattle.exec_lines.specs.Job.{job_of, RunsJob};
+ghost use Rattle.exec_lines.specs.Job.{job_of, IsMadeOf, RunsJob};
 
+use crate::errand::Errand;
 use crate::outcome::Outcome;
 use crate::state::State;
 use batches::Batch;
-use executor::{Base, Work};
+use executor::{Base, Tentative, Work};
 use round::Gate;
 use std::alloc::{AllocError, Global};
 use std::mem;
@@ -42,6 +43,38 @@ impl State {
             }),
             _ => None,
         }
+    }
+
+    /// The job, if there is one, to be run elsewhere. It shares the base and the requests. It errs only if an
+    /// allocation fails.
+    pub fn errand(&self) -> Result<Option<Errand>, AllocError>
+        ensures { IfOk result (λ errand. errand ≡ job_of self.now.work) }
+    {
+        let Some(job) = self.job() else {
+            return Ok(None);
+        };
+        self.works();
+        Ok(Some(Errand {
+            base: job.base.share()?,
+            batch: job.batch.clone()?,
+            ordered: job.ordered,
+        }))
+    }
+
+    /// Completes with what was made elsewhere of the job. It errs only if an allocation fails; then the job is undone.
+    pub fn complete_job(
+        &mut self,
+        alloc: Global,
+        u: u8,
+        id: u8,
+        tentative: Tentative,
+    ) -> Result<Outcome, AllocError>
+        requires few { u < 4 }
+        requires made { IsMadeOf (job_of self.old.work) tentative }
+        ensures ran { IfOk result (λ outcome. RunsJob u id self.old (job_of self.old.work) (executor_left self.new outcome)) }
+    {
+        self.work = None;
+        self.complete(u, id, Vec::new(alloc), tentative)
     }
 
     /// What is always true of its work, if there is any. The call does nothing.

@@ -39,7 +39,7 @@ mod work;
 pub use crate::base_state::Base;
 pub use answered::Answered;
 pub use laws::{ordered_batch_has_one_round, orders_determine_the_round};
-pub use on_threads::execute;
+pub use on_threads::{execute, execute_alone};
 pub use record_laws::{members_are_told_apart, members_tell_their_base};
 pub use saved_member::SavedMember;
 pub use tentative::{Committed, Tentative};

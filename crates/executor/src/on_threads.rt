@@ -39,3 +39,20 @@ pub fn execute<R: Threads + Wait + Sync, G: Gate + Sync>(
         Ended::Done(tentative) => Ok(tentative),
     }
 }
+
+/// Runs a batch to its end on the thread that calls, as `execute` does on several. It errs only if an allocation fails.
+pub fn execute_alone(
+    alloc: Global,
+    base: &Base,
+    batch: Batch,
+    ordered: bool,
+) -> Result<Tentative, AllocError>
+    requires next { batch.n ≡ base.now.state.number + 1 }
+    ensures made { IfOk result (λ tentative. ComesOfWork base.now.state batch ordered tentative) }
+    ensures round { IfOk result (λ tentative. Round base.now.state batch ordered tentative.after tentative.replies) }
+{
+    match Work::begin(alloc, base, batch, ordered)? {
+        Ended::On(work) => work.run_alone(alloc),
+        Ended::Done(tentative) => Ok(tentative),
+    }
+}

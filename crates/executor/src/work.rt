@@ -531,4 +531,20 @@ impl Work {
             }
         }
     }
+
+    /// Makes all steps that are left on the thread that calls, group by group, and ends: see `execute_alone`. It errs
+    /// only if an allocation fails.
+    pub fn run_alone(self, alloc: Global) -> Result<Tentative, AllocError>
+        ensures made { IfOk result (λ tentative. ComesOfWork self.base self.batch self.ordered tentative) }
+        ensures round { IfOk result (λ tentative. Round self.base self.batch self.ordered tentative.after tentative.replies) }
+    {
+        let mut work = self;
+        loop {
+            let ran = work.run_in_turn(alloc)?;
+            match ran.group_after() {
+                Some(group) => work = ran.moved_to(group),
+                None => return ran.complete(alloc),
+            }
+        }
+    }
 }
