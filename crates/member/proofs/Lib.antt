@@ -4,3 +4,4 @@ pub mod Behind
 pub mod Steps
 pub mod Works
 pub mod Joined
+pub mod Reports

@@ -6,4 +6,5 @@ pub mod Asking
 pub mod Passing
 pub mod Tending
 pub mod Working
+pub mod Reporting
 pub mod Laws

@@ -30,6 +30,7 @@ mod opening;
 mod passing;
 mod process_form;
 mod recording;
+mod reporting;
 mod shown_entry;
 mod shown_log;
 mod tending;

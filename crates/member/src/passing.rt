@@ -46,7 +46,7 @@ impl Member {
     ghost use Rattle.member.specs.Working.{answer_shown, LeaveToo};
     ghost use Rattle.member.specs.Passing.{IsFirstHere};
 
-    /// The letter comes, which left another member. It is answered by `work`. It is lost if there is no memory for it, which
+    /// The letter comes, which left another member, or is a decree that left this one. It is answered by `work`. It is lost if there is no memory for it, which
     /// is counted (`refused`).
     pub fn come(&mut self, letter: Letter<Body>)
         ensures shown { self.new.shown ≡ self.old.shown ++ CameIn letter ∷ [] }
@@ -117,7 +117,8 @@ impl Member {
         Some(self.log.went_out(letter))
     }
 
-    /// All letters to other members that `work` left: they are to be handed to these members. Each that is handed out went
+    /// All letters to other members that `work` left: they are to be handed to these members. Decrees of its verifier for its
+    /// executor are among them: they come in again when the executor is to obey them. Each letter that is handed out went
     /// out of this member, whether it arrives or not. If another process is to go on from what is kept of this one, they may
     /// leave only when a record (`record`) of this moment, or of a later one, was saved. NoMemory: nothing has changed.
     pub fn prepare(&mut self, alloc: Global) -> Result<Vec<Letter<Body>>, AllocError>

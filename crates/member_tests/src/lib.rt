@@ -10,4 +10,6 @@ mod lives;
 #[cfg(test)]
 mod memory;
 #[cfg(test)]
+mod reports;
+#[cfg(test)]
 mod site;
