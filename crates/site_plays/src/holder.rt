@@ -25,6 +25,8 @@ pub struct Holder {
     following: Following,
     /// How far the executor was when it worked last, if that is known.
     pub report: Option<ExecutorReport>,
+    /// Whether it may have come further since then.
+    pub has_moved: bool,
     letters: Vec<Letter<Body>>,
     /// What each of the letters is.
     kinds: Vec<HeldLetter>,
@@ -47,6 +49,7 @@ impl Drop for Holder {
             first: _,
             following: _,
             report: _,
+            has_moved: _,
             letters: _,
             kinds: _,
             needs: _,
@@ -125,6 +128,7 @@ impl Holder {
             first: following,
             following,
             report: None,
+            has_moved: true,
             letters: Vec::new(alloc),
             kinds: Vec::new(alloc),
             needs,
@@ -140,6 +144,7 @@ impl Holder {
     pub fn forget_all(&mut self) {
         self.following = self.first;
         self.report = None;
+        self.has_moved = true;
         self.letters.clear();
         self.kinds.clear();
         for need in self.needs.iter_mut() {
@@ -147,6 +152,11 @@ impl Holder {
         }
         self.running = None;
         self.turns = 0;
+    }
+
+    /// How many letters are held.
+    pub fn len(&self) -> usize {
+        self.kinds.len()
     }
 
     /// Whether such a letter is held.
@@ -272,9 +282,16 @@ impl Holder {
         self.running.take()
     }
 
-    /// A tick passes.
+    /// From now on it is known that the executor is so far.
+    pub fn look(&mut self, report: Option<ExecutorReport>) {
+        self.has_moved = report.is_none();
+        self.report = report;
+    }
+
+    /// A tick passes. The executor may have stopped, or was opened again.
     pub fn tick(&mut self) {
         self.following.tick();
+        self.has_moved = true;
     }
 
     /// By this text the executor asks that one for its state.

@@ -22,7 +22,6 @@ const TICKS_TO_ASK_AGAIN: u32 = 10;
 const TICKS_TO_WAIT: u32 = 2;
 
 /// A number under a key.
-#[derive(Drop)]
 struct Row {
     /// The most that it can be by what was asked: how often one was to be added, or the last number that it was to be set to.
     asked: u64,
@@ -30,6 +29,16 @@ struct Row {
     most: u64,
     /// For each number, whether it was given to one that adds.
     given: Vec<bool>,
+}
+
+impl Drop for Row {
+    fn drop(self) {
+        let Row {
+            asked: _,
+            most: _,
+            given: _,
+        } = self;
+    }
 }
 
 /// What a proxy asked and was not answered yet.
@@ -46,7 +55,6 @@ struct Pending {
 }
 
 /// What was asked and answered so far.
-#[derive(Drop)]
 pub struct Judge {
     rows: Vec<Row>,
     /// What each proxy waits for, by its number less one.
@@ -57,6 +65,19 @@ pub struct Judge {
     pub left: u64,
     /// What is wrong, if something is: the first of it.
     pub wrong: Option<Wrong>,
+}
+
+impl Drop for Judge {
+    fn drop(self) {
+        let Judge {
+            rows: _,
+            pending: _,
+            asked: _,
+            answered: _,
+            left: _,
+            wrong: _,
+        } = self;
+    }
 }
 
 /// The number that a read shows, which is 0 if there is none.

@@ -9,14 +9,22 @@ use std::alloc::Global;
 const MOST_LETTERS: u32 = 1000;
 
 /// A connection: bytes on their way, and acknowledgements on their way back.
-#[derive(Drop)]
 struct Connection {
     there: Vec<u8>,
     back: Vec<u64>,
     reader: MessageReader,
 }
 
-#[derive(Drop)]
+impl Drop for Connection {
+    fn drop(self) {
+        let Connection {
+            there: _,
+            back: _,
+            reader: _,
+        } = self;
+    }
+}
+
 pub struct Lane {
     pub from: usize,
     pub to: usize,
@@ -32,6 +40,24 @@ pub struct Lane {
     pub is_right: bool,
     /// How many letters were lost for want of memory.
     pub lost: u64,
+}
+
+impl Drop for Lane {
+    fn drop(self) {
+        let Lane {
+            from: _,
+            to: _,
+            is_bulk: _,
+            bounds: _,
+            sending: _,
+            receiving: _,
+            from_life: _,
+            to_life: _,
+            connection: _,
+            is_right: _,
+            lost: _,
+        } = self;
+    }
 }
 
 impl Lane {

@@ -9,7 +9,6 @@ use std::alloc::{AllocError, Global};
 /// So many letters are held back at most.
 const MOST_LATE: usize = 64;
 
-#[derive(Drop)]
 pub struct Net {
     lanes: Vec<Lane>,
     /// On which of two sides each member is. Nothing passes between these.
@@ -18,6 +17,17 @@ pub struct Net {
     late: Vec<Vec<u8>>,
     /// Whether all comes that is sent.
     pub is_fair: bool,
+}
+
+impl Drop for Net {
+    fn drop(self) {
+        let Net {
+            lanes: _,
+            sides: _,
+            late: _,
+            is_fair: _,
+        } = self;
+    }
 }
 
 /// The side of the member.

@@ -77,6 +77,14 @@ fn drive<R: Threads + Wait + Sync + Print>(
     given.events
 }
 
+/// Prints how far each member is.
+fn tell_members<R: Print>(rt: &R, site: &Site) {
+    for id in 0..site.processes.len() {
+        let (number, held, report) = (site.number(id), site.held(id), site.report(id));
+        let _ = println!(rt; "member {id}: number {number}, {held} letters held, {report:?}");
+    }
+}
+
 /// Plays a site that is not opened yet.
 fn play_site<R: Threads + Wait + Sync + Print>(
     rt: &R,
@@ -96,6 +104,9 @@ fn play_site<R: Threads + Wait + Sync + Print>(
         }
     };
     counts.add(site);
+    if given.is_told {
+        tell_members(rt, site);
+    }
     match site.judge.wrong {
         Some(wrong) => Played::Wrong { at, wrong },
         None => Played::Right,

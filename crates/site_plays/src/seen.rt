@@ -11,7 +11,6 @@ const MOST_PLACES: usize = 100_000;
 /// The state that an executor told of: its epoch, its number and its token.
 type Told = (u64, u64, Token);
 
-#[derive(Drop)]
 pub struct Seen {
     /// The decrees, by their places less one.
     decrees: Vec<Option<Decree>>,
@@ -23,6 +22,19 @@ pub struct Seen {
     pub needs: u64,
     /// Whether no two decrees of one place differ.
     pub is_one: bool,
+}
+
+impl Drop for Seen {
+    fn drop(self) {
+        let Seen {
+            decrees: _,
+            told: _,
+            letters: _,
+            changes: _,
+            needs: _,
+            is_one: _,
+        } = self;
+    }
 }
 
 impl Seen {

@@ -202,6 +202,11 @@ impl Site {
         self.holders.get(id)?.report
     }
 
+    /// How many letters the member holds for its executor.
+    pub fn held(&self, id: usize) -> usize {
+        self.holders.get(id).map_or(0, |holder| holder.len())
+    }
+
     /// The number of the member's executor. 0: it is down.
     pub fn number(&self, id: usize) -> u64 {
         match self.member(id) {
@@ -253,6 +258,9 @@ impl Site {
 
     /// The letter comes in.
     pub fn hand_in(&mut self, id: usize, letter: Letter<Body>) {
+        if let (Node::Executor(_), Some(holder)) = (letter.to, self.holders.get_mut(id)) {
+            holder.has_moved = true;
+        }
         if let Some(member) = self.member_mut(id) {
             member.come(letter);
         }

@@ -9,6 +9,7 @@ use base::Text;
 use decrees::{Letter, Node};
 use ensemble::Answer;
 use exec_lines::Body;
+use following::ExecutorReport;
 use letters::to_text;
 use std::alloc::Global;
 use std::sync::Wait;
@@ -27,12 +28,28 @@ const MOST_BYTES: u32 = 6000;
 const MOST_STEPS: u32 = 20_000;
 
 /// What a member has to say when it has worked.
-#[derive(Drop)]
 struct Said {
     answers: Vec<Answer>,
     letters: Vec<Letter<Body>>,
     /// To which executors, and by which texts, its own executor asks for a state.
     needs: Vec<(usize, Text)>,
+}
+
+impl Drop for Said {
+    fn drop(self) {
+        let Said {
+            answers: _,
+            letters: _,
+            needs: _,
+        } = self;
+    }
+}
+
+/// Whether an executor has sent one of these letters.
+fn are_of_executor(letters: &[Letter<Body>]) -> bool {
+    letters
+        .iter()
+        .any(|letter| matches!(letter.from, Node::Executor(_)))
 }
 
 impl Site {
@@ -74,14 +91,25 @@ impl Site {
         has_come
     }
 
-    /// It is known from now on how far the member's executor is.
-    fn look_at_executor(&mut self, alloc: Global, id: usize) {
-        let report = match self.member(id) {
-            Some(member) => member.report(alloc),
-            None => None,
-        };
+    /// How far the member's executor is, if that is known.
+    fn report_now(&self, alloc: Global, id: usize) -> Option<ExecutorReport> {
+        self.member(id)?.report(alloc)
+    }
+
+    /// Whether the member's executor may have come further since it is known how far it is.
+    fn has_moved(&self, id: usize) -> bool {
+        self.holders.get(id).is_some_and(|holder| holder.has_moved)
+    }
+
+    /// The member has worked, and sends these letters. From now on it is known how far its executor is. That takes long, so
+    /// it is not done if the executor was given no letter, and has sent none.
+    fn look_at_executor(&mut self, alloc: Global, id: usize, letters: &[Letter<Body>]) {
+        if !self.has_moved(id) && !are_of_executor(letters) {
+            return;
+        }
+        let report = self.report_now(alloc, id);
         if let Some(holder) = self.holders.get_mut(id) {
-            holder.report = report;
+            holder.look(report);
         }
     }
 
@@ -106,7 +134,7 @@ impl Site {
         if said.answers.append(&mut answers).is_err() {
             self.lost = self.lost.saturating_add(1);
         }
-        self.look_at_executor(alloc, id);
+        self.look_at_executor(alloc, id, letters.as_slice());
         self.sort_all(alloc, id, letters, said)
     }
 

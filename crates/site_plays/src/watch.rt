@@ -7,7 +7,6 @@ use suspicion::{Observed, Suspicion};
 /// Another member counts as heard if it was within so many ticks.
 const TICKS_TO_HEAR: u32 = 10;
 
-#[derive(Drop)]
 pub struct Watch {
     id: usize,
     suspicion: Suspicion,
@@ -16,6 +15,18 @@ pub struct Watch {
     place: u64,
     /// For how many ticks each member has not been connected.
     away: Vec<u32>,
+}
+
+impl Drop for Watch {
+    fn drop(self) {
+        let Watch {
+            id: _,
+            suspicion: _,
+            view: _,
+            place: _,
+            away: _,
+        } = self;
+    }
 }
 
 impl Watch {
