@@ -1,6 +1,6 @@
 //! What is kept of a member.
 
-ghost use Rattle.std.specs.Prelude.{◌≡◌, IfOk, slice_set};
+ghost use Rattle.std.specs.Prelude.{◌≡◌, slice_set};
 ghost use Rattle.ensemble.specs.Kept.{down_host, down_verifier};
 
 use crate::opening::{unopened_executors, unopened_verifiers};
@@ -51,17 +51,6 @@ impl Model for MemberRecord {
     ghost view = { λ r. record { id = r.id; u = r.u; executor = r.executor; verifier = r.verifier; proxies = r.proxies.items } };
 
     ghost invariant = { λ r. (r.u < 4) × AreNumbered r.proxies.items };
-}
-
-/// These proxies once more.
-pub(crate) fn copied(alloc: Global, proxies: &[Proxy]) -> Result<Vec<Proxy>, AllocError>
-    ensures { IfOk result (λ copies. copies.items ≡ proxies.now) }
-{
-    let mut copies = Vec::with_capacity(alloc, proxies.len())?;
-    for proxy in proxies {
-        copies.push(proxy.copy()?)?;
-    }
-    Ok(copies)
 }
 
 /// The executor of this number, if there is one, is now one that is down, with this keeper.
@@ -151,16 +140,6 @@ impl MemberRecord {
         ensures numbered { AreNumbered self.now.proxies }
     {
         self.proxies.as_slice()
-    }
-
-    /// The same once more. What the keepers have is shared. The only error is a failed allocation.
-    pub fn copy(&self, alloc: Global) -> Result<MemberRecord, AllocError>
-        ensures { IfOk result (λ copy. copy ≡ self.now) }
-    {
-        let executor = self.executor.share()?;
-        let verifier = self.verifier.share()?;
-        let proxies = copied(alloc, self.proxies.as_slice())?;
-        Ok(MemberRecord::of(self.id, self.u, executor, verifier, proxies))
     }
 
     /// The nodes with which a process of member `id` begins that found this.

@@ -6,7 +6,8 @@ ghost use Rattle.worlds.specs.World.{nothing_kept};
 ghost use Rattle.ensemble.specs.Nodes.{AreNumbered};
 ghost use Rattle.member.specs.ProcessForm.{kept_alone, HasNoOther};
 
-use crate::member_record::{MemberRecord, copied};
+use crate::member_record::MemberRecord;
+use crate::recording::copied;
 use base::Text;
 use ensemble::ProcessRecord;
 use exec_lines::ExecutorRecord;

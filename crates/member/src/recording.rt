@@ -7,7 +7,7 @@ ghost use Rattle.member.specs.Recording.{MayBegin};
 
 use crate::found_log::FoundLog;
 use crate::member::Member;
-use crate::member_record::{MemberRecord, copied};
+use crate::member_record::MemberRecord;
 use crate::opening::has_place;
 use crate::shown_log::ShownLog;
 use base::Text;
@@ -16,9 +16,21 @@ use exec_lines::ExecutorRecord;
 use hosts::ExecutorHost;
 use keeper::MemKeeper;
 use proto::Fault;
+use proxies::Proxy;
 use std::alloc::{AllocError, Global};
 use std::collections::VecDeque;
 use worlds::VerifierSlot;
+
+/// These proxies once more.
+pub(crate) fn copied(alloc: Global, proxies: &[Proxy]) -> Result<Vec<Proxy>, AllocError>
+    ensures { IfOk result (λ copies. copies.items ≡ proxies.now) }
+{
+    let mut copies = Vec::with_capacity(alloc, proxies.len())?;
+    for proxy in proxies {
+        copies.push(proxy.copy()?)?;
+    }
+    Ok(copies)
+}
 
 /// What is kept of the executor of this number. Stopped: it is not there, or lost for good.
 fn kept_executor(executors: &[ExecutorHost], id: u8) -> Result<MemKeeper<ExecutorRecord>, Fault>

@@ -1,10 +1,46 @@
 //! The process of a member, and what it has saved.
 
+ghost use Rattle.std.specs.Prelude.{◌≡◌, IfOk};
+
 use ensemble::Config;
+use exec_lines::ExecutorRecord;
+use keeper::{Keeper, MemKeeper, ToText};
 use member::{Member, MemberRecord};
 use proto::Fault;
-use std::alloc::Global;
+use proxies::Proxy;
+use std::alloc::{AllocError, Global};
 use std::mem;
+
+/// What is kept of an executor, as it is read from a disk: it has bytes.
+fn read_keeper(
+    alloc: Global,
+    keeper: &MemKeeper<ExecutorRecord>,
+) -> Result<MemKeeper<ExecutorRecord>, AllocError> {
+    let record = match keeper.load() {
+        Some(record) => Some(ExecutorRecord::of_text(record.to_text(alloc)?)),
+        None => None,
+    };
+    Ok(MemKeeper::of(record, keeper.failures()))
+}
+
+/// These proxies once more.
+fn copied(alloc: Global, proxies: &[Proxy]) -> Result<Vec<Proxy>, AllocError>
+    ensures { IfOk result (λ copies. copies.items ≡ proxies.now) }
+{
+    let mut copies = Vec::with_capacity(alloc, proxies.len())?;
+    for proxy in proxies {
+        copies.push(proxy.copy()?)?;
+    }
+    Ok(copies)
+}
+
+/// What the next process finds, if this was saved.
+fn read(alloc: Global, saved: &MemberRecord) -> Result<MemberRecord, AllocError> {
+    let executor = read_keeper(alloc, saved.executor())?;
+    let verifier = saved.verifier().share()?;
+    let proxies = copied(alloc, saved.proxies())?;
+    Ok(MemberRecord::of(saved.id(), saved.u(), executor, verifier, proxies))
+}
 
 /// A member while its process runs, and what is kept of it. It cannot be dropped, since members cannot: `end` ends it.
 pub struct Process {
@@ -80,7 +116,7 @@ impl Process {
     fn begun(&self, alloc: Global) -> Result<Member, Fault> {
         match &self.saved {
             Some(saved) => {
-                let found = saved.copy(alloc)?;
+                let found = read(alloc, saved)?;
                 Member::reopen(alloc, &self.config, self.id, found)
             }
             None => Member::open(alloc, &self.config, self.id),

@@ -87,6 +87,7 @@ impl Seen {
     pub fn note(&mut self, letter: &Letter<Body>) {
         self.letters = self.letters.saturating_add(1);
         match &letter.body {
+            Body::Need(_) => self.needs = self.needs.saturating_add(1),
             Body::Ballot(Ballot::Change { .. }) => self.changes = self.changes.saturating_add(1),
             Body::Ballot(Ballot::Decided { place, decree }) => self.decide(*place, *decree),
             Body::Ballot(

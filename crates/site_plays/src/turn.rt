@@ -61,12 +61,13 @@ impl Site {
         }
     }
 
-    /// The letter, which the member has sent, is to leave, or is held: whether it came in again instead.
+    /// The letter, which the member has sent, is to leave, or is held: whether it came in again instead. If it is not known how
+    /// far the member's executor is, it asks for a state when it likes.
     fn sort(&mut self, alloc: Global, id: usize, letter: Letter<Body>, said: &mut Said) -> bool {
         if home(letter.to) == id {
             return self.arrive(letter);
         }
-        if matches!(letter.body, Body::Need(_)) {
+        if matches!(letter.body, Body::Need(_)) && self.report(id).is_some() {
             self.note_need(alloc, id, &letter);
         } else if said.letters.push(letter).is_err() {
             self.lost = self.lost.saturating_add(1);

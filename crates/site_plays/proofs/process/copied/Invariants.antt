@@ -1,0 +1,5 @@
+use Rattle.std.proofs.Common.{◌≡◌, take}
+use Rattle.site_plays.proofs.process.copied.Given as goal
+
+abbrev pub invariant-loop-proxy : goal.invariant-loop-proxy
+invariant-loop-proxy l = l.copies.items ≡ take l.proxy-index l.proxies
