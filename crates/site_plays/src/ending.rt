@@ -49,7 +49,7 @@ impl Site {
     }
 
     /// So they do for a tick.
-    fn turns<R: Threads + Wait + Sync>(&mut self, rt: &R, alloc: Global) {
+    pub fn turns<R: Threads + Wait + Sync>(&mut self, rt: &R, alloc: Global) {
         for _ in 0..TURNS {
             self.turn(rt, alloc, true);
         }
@@ -205,11 +205,20 @@ impl Site {
         self.come_together(rt, alloc);
     }
 
-    /// All is answered, and all executors have one state, also if a member is slow then.
-    pub fn finish<R: Threads + Wait + Sync>(&mut self, rt: &R, alloc: Global) {
-        self.be_fair(alloc);
+    /// All is answered, and all executors have one state.
+    fn recover<R: Threads + Wait + Sync>(&mut self, rt: &R, alloc: Global) {
         if self.settle(rt, alloc) {
             self.come_together(rt, alloc);
+        }
+    }
+
+    /// While some members are away the others are answered. Then all is answered, and all executors have one state, also if
+    /// a member is slow.
+    pub fn finish<R: Threads + Wait + Sync>(&mut self, rt: &R, alloc: Global) {
+        self.be_fair(alloc);
+        self.do_without_some(rt, alloc);
+        if self.judge.wrong.is_none() {
+            self.recover(rt, alloc);
         }
         if self.judge.wrong.is_none() && 0 < self.u {
             self.go_slowly(rt, alloc);

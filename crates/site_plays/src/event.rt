@@ -48,6 +48,8 @@ pub enum Event {
     Cut,
     /// There are no sides any more.
     Heal,
+    /// The process of each member ends.
+    Outage,
     /// The member works, and its process ends. Another one begins at a later tick.
     End { member: usize, point: EndPoint },
 }
@@ -61,8 +63,11 @@ fn any_bytes(words: &mut Words) -> usize {
     }
 }
 
-/// The end of the process of a member of so many.
+/// The end of the process of a member of so many, or at times of each.
 fn any_end(words: &mut Words, members: u32) -> Event {
+    if words.one_in(8) {
+        return Event::Outage;
+    }
     let member = words.below(members) as usize;
     let point = match words.below(3) {
         0 => EndPoint::Unsaved,

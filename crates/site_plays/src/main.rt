@@ -4,8 +4,8 @@
 //! leader, and proxies ask again. Connections end at any byte, members are on two sides between which nothing passes, and an
 //! end of a lane begins anew. In two of three plays letters are lost, or come late or twice, besides.
 //!
-//! Then comes a fair end: nothing is lost any more. All requests have to be answered, and all executors to come to one
-//! state. At last one member is slow for a while, and its executor may not fall behind. All the time each answer has to be
+//! Then comes a fair end: nothing is lost any more. Some members are away, up to U, and the others have to be answered all
+//! the same. When they are back all requests have to be answered, and all executors to come to one state. At last one member is slow for a while, and its executor may not fall behind. All the time each answer has to be
 //! one that one server would give (`judge`), and no two decrees of one place may differ.
 //!
 //! A line says what came of all plays, and the status is 0. The first play that is wrong is printed with its seed and its
@@ -13,7 +13,8 @@
 //! for other words, or if there is no memory for any of the plays.
 //!
 //! Processes end when their members have worked: before what they did is saved, when it is, or when some of what they have
-//! to say has left. Another one begins at a later tick, with what was saved. What a member says leaves once that is saved.
+//! to say has left. At times all end at once. Another one begins at a later tick, with what was saved, which it reads from
+//! bytes. What a member says leaves once that is saved.
 //!
 //! Orders, decrees and parcels are held for the executor of a member, and `following` says which one is handed in next. A
 //! member does not have to know: to it a letter that is held is one that comes late.
@@ -29,6 +30,7 @@
 //! A replica stops only if memory is refused, and is opened again at a tick: a member has no call that stops one.
 #![tactic(auto)]
 
+mod absence;
 mod asking;
 mod ending;
 mod event;

@@ -50,6 +50,8 @@ pub struct Process {
     member: Option<Member>,
     /// What was saved last.
     saved: Option<MemberRecord>,
+    /// Whether the member is away: when its process has ended no other one begins, and what is said to it is lost.
+    pub is_away: bool,
 }
 
 impl Process {
@@ -61,6 +63,7 @@ impl Process {
             config: *config,
             member: Some(member),
             saved: None,
+            is_away: false,
         })
     }
 
@@ -147,6 +150,7 @@ impl Process {
             config: _,
             member,
             saved,
+            is_away: _,
         } = self;
         if let Some(member) = member {
             member.end();

@@ -134,13 +134,9 @@ impl Site {
     /// The process of the last member ends, and another one begins after so many batches.
     fn be_away<R: Threads + Wait + Sync>(&mut self, rt: &R, alloc: Global, batches: u32) {
         let last = self.last();
-        self.stop(alloc, last);
-        self.away = Some(last);
+        self.leave(alloc, last);
         self.load_for(rt, alloc, u64::from(batches), false);
-        self.away = None;
-        if let Some(process) = self.processes.get_mut(last) {
-            process.go_on(alloc);
-        }
+        self.return_all();
     }
 
     /// Whether the last executor follows, and is not far behind.

@@ -39,8 +39,6 @@ pub struct Site {
     trouble: u32,
     /// In the end: which member works seldom.
     pub slow: Option<usize>,
-    /// The member whose process does not begin again. What is said to it is lost.
-    pub away: Option<usize>,
     /// With a planted fault: orders that come after the decrees on them.
     pub orders: Vec<Letter<Body>>,
     pub ticks: u32,
@@ -122,7 +120,6 @@ impl Site {
             planted: given.planted,
             trouble,
             slow: None,
-            away: None,
             orders: Vec::new(alloc),
             ticks: 0,
             suspicions: 0,
@@ -164,7 +161,6 @@ impl Site {
             planted: _,
             trouble: _,
             slow: _,
-            away: _,
             orders,
             ticks: _,
             suspicions: _,
@@ -232,7 +228,7 @@ impl Site {
 
     /// Whether what the one member says to the other one is lost: by a planted fault, or since that is away.
     fn is_lost(&self, from: usize, to: usize) -> bool {
-        self.away == Some(to) || self.planted == Some(Planted::Lost) && from == 0 && to == 1
+        self.is_away(to) || self.planted == Some(Planted::Lost) && from == 0 && to == 1
     }
 
     /// The letter leaves the member, and is to be sent. It is lost if there is no memory for that.

@@ -26,7 +26,7 @@ impl Site {
 
     /// Another process of the member begins at times, if the one before has ended. It has observed nothing.
     fn go_on(&mut self, alloc: Global, id: usize) {
-        if self.is_running(id) || self.away == Some(id) || !self.words.one_in(3) {
+        if self.is_running(id) || self.is_away(id) || !self.words.one_in(3) {
             return;
         }
         if let Some(process) = self.processes.get_mut(id) {
@@ -139,6 +139,7 @@ impl Site {
             Event::Cut => self.net.cut(&mut self.words),
             Event::Heal => self.net.heal(),
             Event::Lose { lane, loss } => self.net.lose(alloc, lane, loss),
+            Event::Outage => self.stop_all(alloc),
             Event::End { member, point } => self.work_and_end(rt, alloc, member, point),
         }
     }

@@ -11,6 +11,8 @@ pub enum Wrong {
     Letter,
     /// Two decrees of one place differ.
     Decrees,
+    /// With nothing lost, as many members are away as may be, and a request of another one is not answered.
+    Without,
     /// In the end, with nothing lost, a request is not answered.
     Silent,
     /// In the end, with nothing lost, executors do not come to one state.
@@ -27,6 +29,7 @@ impl Wrong {
             Wrong::Lane => "an end of a lane refused the other one",
             Wrong::Letter => "what came is no letter of this lane",
             Wrong::Decrees => "two decrees of one place differ",
+            Wrong::Without => "a request is not answered while others are away",
             Wrong::Silent => "a request is not answered in the end",
             Wrong::Unlike => "executors differ in the end",
             Wrong::Behind => "a slow member fell behind",
