@@ -46,8 +46,8 @@ impl Member {
     ghost use Rattle.member.specs.Working.{answer_shown, LeaveToo};
     ghost use Rattle.member.specs.Passing.{IsFirstHere};
 
-    /// The letter comes, which left another member, or is a decree that left this one. It is answered by `work`. It is lost if there is no memory for it, which
-    /// is counted (`refused`).
+    /// The letter comes, which left another member, or is a decree that left this one. It is answered by `work`. It is lost
+    /// if there is no memory for it, which is counted (`refused`).
     pub fn come(&mut self, letter: Letter<Body>)
         ensures shown { self.new.shown ≡ self.old.shown ++ CameIn letter ∷ [] }
         ensures arrived { self.new.refused ≡ self.old.refused → self.old.refused < 2 ^ 64 - 1 → self.new.nodes.mail ≡ self.old.nodes.mail ++ letter ∷ [] }
