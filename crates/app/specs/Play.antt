@@ -6,8 +6,7 @@ use Rattle.schedules.specs.declared.fault.ScheduleFault.{ScheduleFault}
 use Rattle.schedules.specs.declared.schedule.Schedule.{Schedule}
 use Rattle.schedules.specs.Schedule.{SpellsSchedule, IsRefusedRightly}
 use Rattle.streams.specs.Writes.{Taken, IsWrittenOut}
-use Rattle.worlds.specs.World.{WorldView}
-use Rattle.worlds.specs.Laws.{IsReached}
+use Rattle.worlds.specs.World.{WorldView, IsReached}
 use Rattle.app.specs.declared.fault.PlayFault.{PlayFault}
 use Rattle.app.specs.declared.fault.PlayFault.TheVariants.{Refused, Read}
 use Rattle.app.specs.Making.{Makes}

@@ -6,12 +6,12 @@ use Rattle.verifier.specs.Verifier.{VerifierView}
 use Rattle.schedules.specs.declared.fault.ScheduleFault.{ScheduleFault}
 use Rattle.schedules.specs.declared.fault.ScheduleFault.TheVariants.{NoMemory, BadSchedule}
 use Rattle.schedules.specs.Escape.{printed_text}
-use Rattle.worlds.specs.Slot.{Slot}
-use Rattle.worlds.specs.declared.status.Status.{Status}
-use Rattle.worlds.specs.declared.status.Status.TheVariants.{Up, Down, Lost}
-use Rattle.worlds.specs.declared.status.VerifierReport.{VerifierReport}
-use Rattle.worlds.specs.Slots.{ClientSlot}
-use Rattle.worlds.specs.Status.{status_of, executor_report, verifier_report, is_client_open}
+use Rattle.slots.specs.Slot.{Slot}
+use Rattle.slots.specs.declared.status.Status.{Status}
+use Rattle.slots.specs.declared.status.Status.TheVariants.{Up, Down, Lost}
+use Rattle.slots.specs.declared.status.VerifierReport.{VerifierReport}
+use Rattle.worlds.specs.Clients.{ClientSlot, is_client_open}
+use Rattle.slots.specs.Status.{status_of, executor_report, verifier_report}
 use Rattle.worlds.specs.World.{WorldView}
 
 -- a space and the bytes, if there are any

@@ -1,15 +1,15 @@
 //! What is printed of a world: a line a node.
 
 ghost use Rattle.std.specs.Prelude.{◌≡◌, ◌++◌, OnOk, IfOk, decimal};
-ghost use Rattle.worlds.specs.Status.{executor_report, verifier_report};
+ghost use Rattle.slots.specs.Status.{executor_report, verifier_report};
 ghost use Rattle.app.specs.Printed as spec;
 
 use exec_lines::Report;
 use itoa::Buffer;
 use schedules::write_printed;
+use slots::{ExecutorSlot, Status, VerifierReport, VerifierSlot};
 use std::alloc::{AllocError, Global};
-use world::World;
-use worlds::{ClientSlot, ExecutorSlot, Status, VerifierReport, VerifierSlot};
+use world::{ClientSlot, World};
 
 fn write_number(number: u64, out: &mut Vec<u8>) -> Result<(), AllocError>
     ensures { OnOk result (out.new.items ≡ out.old.items ++ decimal number) }

@@ -12,7 +12,7 @@ use Rattle.grammar.specs.declared.reader.Dialect.{Dialect}
 use Rattle.grammar.specs.Reads.{with_mark}
 use Rattle.connections.specs.declared.connections.CommandNumber.{CommandNumber}
 use Rattle.connections.specs.declared.slots.ConnectionId.{ConnectionId}
-use Rattle.connections.specs.declared.said.Said.{Said}
+use Rattle.loop_messages.specs.declared.message.Said.{Said}
 use Rattle.connections.specs.Connection.{ConnectionView, IsTaken}
 use Rattle.connections.specs.Slots.{is_of_connection, comes_to, connection_at, slot_in, is_here, FeedsHere, FeedsIn, FeedsAt, AnswersHere, AnswersIn, AnswersAt, TakesSlot, TakesWhere, TakesIn, TakesAt, left_slot, left_in, left_at, HasSameOthers, IsGrown}
 use Rattle.memcached_spec.specs.Asked.{HasText}

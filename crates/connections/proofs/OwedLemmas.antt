@@ -12,9 +12,9 @@ use Rattle.session.specs.declared.session.Session.{Session}
 use Rattle.session.specs.Session.{SessionStep, session_stays, session_goes_on, is_outstanding_as, session_answered, answered_if_taken, answered_to_awaited}
 use Rattle.session.proofs.TakenLemmas.{none_pending}
 use Rattle.session.specs.declared.session.Ready.{Ready}
-use Rattle.connections.specs.declared.connection.TheConstants.{MOST_UNWRITTEN}
+use Rattle.loop_messages.specs.declared.message.TheConstants.{MOST_UNWRITTEN}
 use Rattle.connections.specs.declared.slots.ConnectionId.{ConnectionId}
-use Rattle.connections.specs.declared.said.Said.{Said}
+use Rattle.loop_messages.specs.declared.message.Said.{Said}
 use Rattle.connections.specs.Connection.{ConnectionView, IsFedTo, ConnectionAnswers, after_given}
 use Rattle.connections.specs.Slots.{slot_in, is_of_connection, connection_at, is_here, FeedsAt, AnswersAt, TakesWhere, TakesSlot, TakesIn, TakesAt, left_in, left_at, after_written, written_slot, written_in, written_at, HasSameOthers}
 use Rattle.connections.specs.Connections.{ConnectionsView, IsHere, IsConnections}

@@ -4,7 +4,7 @@ use Rattle.std.specs.Prelude.{◌&&◌, is_some, not, Ok, if◌then◌else◌}
 use Rattle.std.proofs.lemmas.Bool.{eq-eqb}
 use Rattle.proto.specs.declared.reply.Reply as replies
 use Rattle.connections.specs.declared.slots.ConnectionId.{ConnectionId}
-use Rattle.connections.specs.declared.said.Said.{Said}
+use Rattle.loop_messages.specs.declared.message.Said.{Said}
 use Rattle.connections.specs.Connection.{ConnectionView}
 use Rattle.connections.specs.Slots.{is_of_connection, slot_in, is_here, FeedsAt, AnswersAt, left_at}
 use Rattle.connections.specs.Connections.{ConnectionsView}

@@ -5,7 +5,7 @@ use Rattle.grammar.specs.declared.reader.Dialect.{Dialect}
 use Rattle.session.specs.declared.session.Ready.{Ready}
 use Rattle.session.specs.declared.session.Session.{Session}
 use Rattle.session.specs.Session.{SessionStep, new_session, IsFedSession, session_answered, IsTakenOfSession}
-use Rattle.connections.specs.declared.connection.TheConstants.{MOST_UNWRITTEN}
+use Rattle.loop_messages.specs.declared.message.TheConstants.{MOST_UNWRITTEN}
 
 pub record ConnectionView : Type 0 where
   pub number : ℕ

@@ -9,7 +9,7 @@ use Rattle.grammar.specs.Reads.{dialect_of}
 use Rattle.session.specs.Taken.{SessionOk}
 use Rattle.base.specs.declared.fault.Fault.{Fault}
 use Rattle.connections.specs.declared.connections.CommandNumber.{CommandNumber}
-use Rattle.connections.specs.declared.said.Said.{Said}
+use Rattle.loop_messages.specs.declared.message.Said.{Said}
 use Rattle.connections.specs.Connection.{ConnectionView}
 use Rattle.connections.specs.History.{Passed, heard_as, given_as, heard_among, given_among}
 use Rattle.connections.specs.Slots.{slot_in}

@@ -2,7 +2,7 @@
 use Rattle.std.specs.Prelude.{◌≡◌, ◌⊎◌, ℕ, ◌≤◌, true, false, List, Option, Some, None, is_some}
 use Rattle.session.specs.Session.{is_outstanding_as}
 use Rattle.session.specs.declared.session.Ready.{Ready}
-use Rattle.connections.specs.declared.connection.TheConstants.{MOST_UNWRITTEN}
+use Rattle.loop_messages.specs.declared.message.TheConstants.{MOST_UNWRITTEN}
 use Rattle.connections.specs.declared.slots.ConnectionId.{ConnectionId}
 use Rattle.connections.specs.Connection.{ConnectionView, IsTaken}
 use Rattle.connections.specs.Slots.{slot_in}

@@ -5,9 +5,9 @@ use Rattle.base.specs.declared.fault.Fault.TheVariants as fault
 use Rattle.proto.specs.declared.reply.Reply as replies
 use Rattle.grammar.specs.Reads.{dialect_of, with_mark}
 use Rattle.session.specs.declared.session.Ready.{Ready}
-use Rattle.connections.specs.declared.connection.TheConstants.{MOST_UNWRITTEN}
+use Rattle.loop_messages.specs.declared.message.TheConstants.{MOST_UNWRITTEN}
 use Rattle.connections.specs.declared.slots.ConnectionId.{ConnectionId}
-use Rattle.connections.specs.declared.said.Said.{Said}
+use Rattle.loop_messages.specs.declared.message.Said.{Said}
 use Rattle.connections.specs.Connection.{ConnectionView, IsFedTo, ConnectionAnswers, IsTaken}
 
 -- the connection of this number is there

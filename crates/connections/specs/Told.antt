@@ -2,7 +2,7 @@
 use Rattle.std.specs.Prelude.{◌≡◌, ◌⊎◌, ℕ, ◌==◌, ◌&&◌, Bool, true, false, List, [], Option, Some, None, is_some, not, if◌then◌else◌}
 use Rattle.proto.specs.declared.reply.Reply as replies
 use Rattle.connections.specs.declared.slots.ConnectionId.{ConnectionId}
-use Rattle.connections.specs.declared.said.Said.{Said}
+use Rattle.loop_messages.specs.declared.message.Said.{Said}
 use Rattle.connections.specs.Connection.{ConnectionView, IsFedTo, ConnectionAnswers}
 use Rattle.connections.specs.Slots.{slot_in, is_here, HasSameOthers}
 

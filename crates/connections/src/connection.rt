@@ -3,13 +3,11 @@
 ghost use Rattle.std.specs.Prelude.{◌≡◌, ℕ};
 
 use grammar::{Conditions, Dialect};
+use loop_messages::MOST_UNWRITTEN;
 use proto::{Fault, Reply};
 use session::{Ready, Session};
 use std::alloc::Global;
 use std::marker::Model;
-
-/// A connection that has so many bytes to be written asks no further command.
-pub const MOST_UNWRITTEN: usize = 262_144;
 
 /// A connection's part of the server. It has at most one command outstanding.
 pub struct Connection {
@@ -42,7 +40,7 @@ impl Connection {
     ghost use Rattle.std.specs.Prelude.{◌≡◌, ◌⊎◌, ◌≤◌, ◌-◌, None, IfOk, IfErr, IfSome, IfNone, is_some};
     ghost use Rattle.grammar.specs.Reads.{dialect_of, with_mark};
     ghost use Rattle.connections.specs.Connection.{IsFedTo, ConnectionAnswers, IsTaken, new_connection};
-    ghost use Rattle.connections.specs.declared.connection.TheConstants.{MOST_UNWRITTEN};
+    ghost use Rattle.loop_messages.specs.declared.message.TheConstants.{MOST_UNWRITTEN};
 
     /// The connection of this number, of which nothing came yet, and whose bytes are read in this grammar.
     pub fn new(alloc: Global, dialect: Dialect, number: u64) -> Connection

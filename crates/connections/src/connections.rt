@@ -4,11 +4,11 @@ ghost use Rattle.std.specs.Prelude.{◌≡◌};
 
 use crate::connection::Connection;
 use crate::history::History;
-use crate::said::Said;
 use crate::slots::ConnectionId;
 use crate::table;
+use ghost_log::GhostLog;
 use grammar::{Conditions, Dialect};
-use http_server::Log;
+use loop_messages::Said;
 use proto::{Command, Fault, Reply};
 use session::Ready;
 use std::alloc::Global;
@@ -32,9 +32,9 @@ pub struct Connections {
     first: u64,
     history: History,
     /// The commands that were taken.
-    taken: Log<CommandNumber, Command>,
+    taken: GhostLog<CommandNumber, Command>,
     /// The replies that came back.
-    replied: Log<CommandNumber, Reply>,
+    replied: GhostLog<CommandNumber, Reply>,
 }
 
 impl Drop for Connections {
@@ -91,8 +91,8 @@ impl Connections {
             next: first,
             first,
             history: History::new(),
-            taken: Log::new(),
-            replied: Log::new(),
+            taken: GhostLog::new(),
+            replied: GhostLog::new(),
         }
     }
 
@@ -270,7 +270,7 @@ impl Connections {
             return None;
         }
         table::leave(&mut self.table, at);
-        let said = Said::last(alloc, at);
+        let said = Said::last(alloc, at.key, at.number);
         self.history.give(at.number, &said.bytes);
         Some(said)
     }

@@ -2,8 +2,8 @@
 
 ghost use Rattle.std.specs.Prelude.{◌≡◌};
 
+use ghost_log::GhostLog;
 use grammar::Dialect;
-use http_server::Log;
 use std::alloc::Global;
 use std::marker::Model;
 
@@ -53,11 +53,11 @@ impl PassedAs {
 /// All that ever came of connections, and all that they were given. It is known to the proof alone: a log has no bytes.
 pub struct History {
     /// What came of each connection.
-    heard: Log<Hearing, Vec<u8>>,
+    heard: GhostLog<Hearing, Vec<u8>>,
     /// What each connection was given.
-    given: Log<u64, Vec<u8>>,
+    given: GhostLog<u64, Vec<u8>>,
     /// Both, in one order, with the moments between them.
-    passed: Log<PassedAs, Vec<u8>>,
+    passed: GhostLog<PassedAs, Vec<u8>>,
 }
 
 impl Drop for History {
@@ -91,9 +91,9 @@ impl History {
         ensures { result ≡ no_history }
     {
         History {
-            heard: Log::new(),
-            given: Log::new(),
-            passed: Log::new(),
+            heard: GhostLog::new(),
+            given: GhostLog::new(),
+            passed: GhostLog::new(),
         }
     }
 

@@ -10,15 +10,13 @@
 mod connection;
 mod connections;
 mod history;
-mod said;
 mod slots;
 mod table;
 
-pub use connection::{Connection, MOST_UNWRITTEN};
+pub use connection::Connection;
 pub use connections::{CommandNumber, Connections};
 pub use grammar::Dialect;
 pub use history::{History, Passing};
-pub use said::Said;
 pub use session::Ready;
 pub use slots::ConnectionId;
 pub use table::MOST_SLOTS;

@@ -6,8 +6,8 @@ ghost use Rattle.grammar.specs.Reads.{dialect_of, with_mark};
 ghost use Rattle.connections.specs.Slots.{is_of_connection, is_untaken, comes_to, stays_open, IsSaid, AnswersOne, FeedsSlot, AnswersSlot, TakesSlot, left_slot, written_slot};
 
 use crate::connection::Connection;
-use crate::said::Said;
 use grammar::Conditions;
+use loop_messages::Said;
 use proto::{Fault, Reply};
 use session::Ready;
 use std::alloc::Global;
@@ -83,7 +83,7 @@ fn answer_one(
 {
     match connection.answer(alloc, turn, &reply) {
         Ok(bytes) => said_of(connection, at, bytes),
-        Err(_) => Said::last(alloc, at),
+        Err(_) => Said::last(alloc, at.key, at.number),
     }
 }
 

@@ -5,10 +5,10 @@ ghost use Rattle.connections.specs.Slots.{slot_in, comes_to, FeedsAt, AnswersAt,
 ghost use Rattle.connections.specs.Slots.{is_here as is_here_in, is_untaken_in};
 
 use crate::connection::Connection;
-use crate::said::Said;
 use crate::slots;
 use crate::slots::ConnectionId;
 use grammar::Conditions;
+use loop_messages::Said;
 use proto::{Fault, Reply};
 use session::Ready;
 use std::alloc::Global;

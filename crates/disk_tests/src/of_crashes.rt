@@ -6,10 +6,10 @@
 
 ghost use Rattle.std.specs.Prelude.{◌≡◌};
 
-use crate::files::{Image, TestDisk, TestRows, image_of, made, opened};
+use crate::rows::{TestRows, made_rows, opened_rows};
 use crate::saves::{Content, SAVES, content_after, content_of, save_all};
+use disk_images::{Blocks, Calls, DiskFile, Leftovers, left_of};
 use row_store::crash_and_reopen;
-use sqlite_disk::Crash;
 use std::alloc::Global;
 use std::process::Abort;
 use std::test::Fail;
@@ -31,15 +31,17 @@ fn crashed(alloc: Global, mut rows: TestRows) -> (Option<u8>, Option<Content>)
 }
 
 /// Stops the files at these calls, and opens them again. Whether all saves were made before.
-fn stopped_at(rt: &impl Abort, alloc: Global, log_calls: u64, db_calls: u64) -> Result<bool, Fail> {
-    let Some(rows) = made(alloc, log_calls, db_calls)? else {
+fn stopped_at(rt: &impl Abort, alloc: Global, calls: Calls) -> Result<bool, Fail> {
+    let Some(rows) = made_rows(alloc, calls)? else {
         return Ok(false);
     };
     let (saved, content) = crashed(alloc, rows);
     let saved = saved.ok_or("no memory")?;
     assert!(rt;
         is_old_or_new(content, saved),
-        "{log_calls} {db_calls}: {content:?}"
+        "{} {}: {content:?}",
+        calls.log,
+        calls.db
     );
     Ok(saved == SAVES)
 }
@@ -50,141 +52,80 @@ fn a_crash_at_each_call_leaves_the_last_save_or_the_next(rt: HostRuntime) -> Res
     let (mut log_is_done, mut db_is_done) = (false, false);
     for calls in 0..2000 {
         if !log_is_done {
-            log_is_done = stopped_at(&rt, alloc, calls, u64::MAX)?;
+            log_is_done = stopped_at(&rt, alloc, Calls::of(DiskFile::Log, calls))?;
         }
         if !db_is_done {
-            db_is_done = stopped_at(&rt, alloc, u64::MAX, calls)?;
+            db_is_done = stopped_at(&rt, alloc, Calls::of(DiskFile::Db, calls))?;
         }
         if log_is_done && db_is_done {
             return Ok(());
         }
-        stopped_at(&rt, alloc, calls, calls)?;
+        let both = Calls {
+            log: calls,
+            db: calls,
+        };
+        stopped_at(&rt, alloc, both)?;
     }
     panic!(rt; "so many calls are not enough")
 }
 
-/// Which blocks of 512 bytes of what was written are on the disk.
-#[derive(Clone, Copy)]
-enum Blocks {
-    Before(usize),
-    Only(usize),
-    AllBut(usize),
-}
-
-fn is_written(blocks: Blocks, block: usize) -> bool {
-    match blocks {
-        Blocks::Before(end) => block < end,
-        Blocks::Only(one) => block == one,
-        Blocks::AllBut(one) => block != one,
-    }
-}
-
-/// What a machine that stopped left of a file: as it was synced last, and as it was written.
-#[derive(Drop)]
-struct Both {
-    synced: Image,
-    written: Image,
-}
-
-fn both_of(alloc: Global, mut disk: TestDisk) -> Result<Both, Fail> {
-    let written = image_of(alloc, &disk)?;
-    disk.crash();
-    Ok(Both {
-        synced: image_of(alloc, &disk)?,
-        written,
-    })
-}
-
-fn byte_at(image: &Image, at: usize) -> u8 {
-    image.bytes.get(at).copied().unwrap_or(0)
-}
-
-/// How many bytes of it may differ.
-fn span(both: &Both) -> usize {
-    both.synced.bytes.len().max(both.written.bytes.len())
-}
-
-/// Whether the block was written since the last sync.
-fn differs(both: &Both, block: usize) -> bool {
-    for at in 0..span(both) {
-        if at / 512 == block && byte_at(&both.synced, at) != byte_at(&both.written, at) {
-            return true;
-        }
-    }
-    false
-}
-
-/// The file with some blocks as they were written, and the others as they were synced before.
-fn mixed(alloc: Global, both: &Both, blocks: Blocks) -> Result<Image, Fail> {
-    let mut bytes = Vec::new(alloc);
-    for at in 0..span(both) {
-        let from = if is_written(blocks, at / 512) {
-            &both.written
-        } else {
-            &both.synced
-        };
-        bytes.push(byte_at(from, at))?;
-    }
-    Ok(Image {
-        bytes,
-        len: both.synced.len.max(both.written.len),
-    })
-}
-
 /// What a machine that stopped left, after so many saves.
-#[derive(Drop)]
 struct Left {
     saved: u8,
-    log: Both,
-    db: Both,
+    files: Leftovers,
 }
 
-fn left_at(alloc: Global, log_calls: u64, db_calls: u64) -> Result<Option<Left>, Fail> {
-    let Some(mut rows) = made(alloc, log_calls, db_calls)? else {
+impl Drop for Left {
+    fn drop(self) {
+        let Left { saved: _, files: _ } = self;
+    }
+}
+
+fn left_at(alloc: Global, calls: Calls) -> Result<Option<Left>, Fail> {
+    let Some(mut rows) = made_rows(alloc, calls)? else {
         return Ok(None);
     };
     let saved = save_all(alloc, &mut rows);
-    let files = rows.into_store().close();
+    let mut files = rows.into_store().close();
     Ok(Some(Left {
         saved: saved.ok_or("no memory")?,
-        log: both_of(alloc, files.log)?,
-        db: both_of(alloc, files.db)?,
+        files: left_of(alloc, &mut files)?,
     }))
 }
 
-fn open_mixed(rt: &impl Abort, alloc: Global, left: &Left, blocks: Blocks) -> Result<(), Fail> {
-    let log = mixed(alloc, &left.log, blocks)?;
-    let db = mixed(alloc, &left.db, blocks)?;
-    match opened(alloc, &log, &db)? {
+fn open_with(rt: &impl Abort, alloc: Global, left: &Left, blocks: Blocks) -> Result<(), Fail> {
+    let images = left.files.images(alloc, blocks)?;
+    match opened_rows(alloc, &images)? {
         Some(mut rows) => assert!(rt; is_old_or_new(content_of(alloc, &mut rows), left.saved)),
         None => panic!(rt; "it does not open again"),
     }
     Ok(())
 }
 
-/// Opens what is left with each choice of blocks. How many choices there were.
-fn open_each(rt: &impl Abort, alloc: Global, left: &Left) -> Result<usize, Fail> {
-    let mut choices = 0usize;
-    for block in 0..64 {
-        if differs(&left.log, block) || differs(&left.db, block) {
-            open_mixed(rt, alloc, left, Blocks::Before(block))?;
-            open_mixed(rt, alloc, left, Blocks::Only(block))?;
-            open_mixed(rt, alloc, left, Blocks::AllBut(block))?;
-            choices = choices.wrapping_add(3);
-        }
+/// Opens what is left with each choice of this block.
+fn open_block(rt: &impl Abort, alloc: Global, left: &Left, block: usize) -> Result<(), Fail> {
+    for blocks in &Blocks::of(block) {
+        open_with(rt, alloc, left, *blocks)?;
     }
-    Ok(choices)
+    Ok(())
 }
 
-/// Opens all that the files may have after they stopped at these calls. How many choices there were; `None`: all saves
-/// were made before.
-fn open_left(
-    rt: &impl Abort,
-    alloc: Global,
-    log_calls: u64,
-    db_calls: u64,
-) -> Result<Option<usize>, Fail> {
-    match left_at(alloc, log_calls, db_calls)? {
+/// Opens what is left with each choice of blocks. How many blocks differ.
+fn open_each(rt: &impl Abort, alloc: Global, left: &Left) -> Result<usize, Fail> {
+    let mut differing = 0usize;
+    for block in 0..left.files.block_count() {
+        if left.files.differs(block) {
+            open_block(rt, alloc, left, block)?;
+            differing = differing.wrapping_add(1);
+        }
+    }
+    Ok(differing)
+}
+
+/// Opens all that the files may have after they stopped at these calls. How many blocks differ; `None`: all saves were
+/// made before.
+fn open_left(rt: &impl Abort, alloc: Global, calls: Calls) -> Result<Option<usize>, Fail> {
+    match left_at(alloc, calls)? {
         Some(left) if left.saved == SAVES => Ok(None),
         Some(left) => Ok(Some(open_each(rt, alloc, &left)?)),
         None => Ok(Some(0)),
@@ -194,15 +135,15 @@ fn open_left(
 #[test]
 fn a_crash_leaves_any_blocks_that_were_not_synced(rt: HostRuntime) -> Result<(), Fail> {
     let alloc = rt.alloc();
-    let mut choices = 0usize;
+    let mut differing = 0usize;
     for calls in 0..2000 {
-        let of_log = open_left(&rt, alloc, calls, u64::MAX)?;
-        let of_db = open_left(&rt, alloc, u64::MAX, calls)?;
+        let of_log = open_left(&rt, alloc, Calls::of(DiskFile::Log, calls))?;
+        let of_db = open_left(&rt, alloc, Calls::of(DiskFile::Db, calls))?;
         if of_log.is_none() && of_db.is_none() {
-            assert!(rt; choices > 50);
+            assert!(rt; differing > 16);
             return Ok(());
         }
-        choices = choices
+        differing = differing
             .wrapping_add(of_log.unwrap_or(0))
             .wrapping_add(of_db.unwrap_or(0));
     }

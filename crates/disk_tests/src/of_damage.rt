@@ -1,15 +1,16 @@
 //! Damage at each byte of both files: it is reported when they are opened or read, or what is read is what some
 //! save made.
 
-use crate::files::{Image, image_of, made, opened};
+use crate::rows::{made_rows, opened_rows};
 use crate::saves::{SAVES, content_of, is_of_a_save, save_all};
+use disk_images::{Calls, DiskFile, Images, images_of};
 use std::alloc::Global;
 use std::process::Abort;
 use std::test::Fail;
 
-/// The log and the file after all saves.
-fn written(alloc: Global) -> Result<(Image, Image), Fail> {
-    let Some(mut rows) = made(alloc, u64::MAX, u64::MAX)? else {
+/// The files after all saves.
+fn written(alloc: Global) -> Result<Images, Fail> {
+    let Some(mut rows) = made_rows(alloc, Calls::ALL)? else {
         return Err("it is not made".into());
     };
     let saved = save_all(alloc, &mut rows);
@@ -17,25 +18,12 @@ fn written(alloc: Global) -> Result<(Image, Image), Fail> {
     if saved != Some(SAVES) {
         return Err("not all saves succeeded".into());
     }
-    Ok((
-        short(image_of(alloc, &files.log)?),
-        short(image_of(alloc, &files.db)?),
-    ))
-}
-
-/// The file with at most 4,096 zeros at its end: an open of it takes less time.
-fn short(image: Image) -> Image {
-    let Image { bytes, len } = image;
-    let used = bytes.len();
-    Image {
-        bytes,
-        len: len.min(used.saturating_add(4096 - used % 4096)),
-    }
+    Ok(images_of(alloc, &files)?.shortened())
 }
 
 /// Whether damage was reported.
-fn is_told(rt: &impl Abort, alloc: Global, log: &Image, db: &Image) -> Result<bool, Fail> {
-    let Some(mut rows) = opened(alloc, log, db)? else {
+fn is_told(rt: &impl Abort, alloc: Global, images: &Images) -> Result<bool, Fail> {
+    let Some(mut rows) = opened_rows(alloc, images)? else {
         return Ok(true);
     };
     match content_of(alloc, &mut rows) {
@@ -47,28 +35,21 @@ fn is_told(rt: &impl Abort, alloc: Global, log: &Image, db: &Image) -> Result<bo
     }
 }
 
-/// Changes one byte after the other of a file, up to its zeros, and looks what comes of it by `is_told`. How often it was
-/// told.
-fn damage_each<F: Fn(&Image) -> Result<bool, Fail>>(
-    image: &mut Image,
-    is_told: F,
-) -> Result<u64, Fail>
-    requires { F.IsAlwaysCallable is_told }
-{
+/// Changes one byte after the other of a file, up to its zeros. How often that was reported.
+fn damage_each(rt: &impl Abort, alloc: Global, file: DiskFile) -> Result<u64, Fail> {
+    let mut images = written(alloc)?;
     let mut told = 0u64;
-    for at in 0..image.bytes.len() {
-        image.bytes[at] ^= 0x40;
-        told = told.wrapping_add(is_told(image)? as u64);
-        image.bytes[at] ^= 0x40;
+    for at in 0..images.used(file) {
+        images.flip(file, at);
+        told = told.wrapping_add(is_told(rt, alloc, &images)? as u64);
+        images.flip(file, at);
     }
     Ok(told)
 }
 
 #[test]
 fn a_damaged_byte_of_the_log_is_told_or_leaves_what_was_saved(rt: HostRuntime) -> Result<(), Fail> {
-    let alloc = rt.alloc();
-    let (mut log, db) = written(alloc)?;
-    damage_each(&mut log, |log| is_told(&rt, alloc, log, &db))?;
+    damage_each(&rt, rt.alloc(), DiskFile::Log)?;
     Ok(())
 }
 
@@ -76,8 +57,6 @@ fn a_damaged_byte_of_the_log_is_told_or_leaves_what_was_saved(rt: HostRuntime) -
 fn a_damaged_byte_of_the_file_is_told_or_leaves_what_was_saved(
     rt: HostRuntime,
 ) -> Result<(), Fail> {
-    let alloc = rt.alloc();
-    let (log, mut db) = written(alloc)?;
-    assert!(rt; damage_each(&mut db, |db| is_told(&rt, alloc, &log, db))? > 100);
+    assert!(rt; damage_each(&rt, rt.alloc(), DiskFile::Db)? > 100);
     Ok(())
 }

@@ -17,10 +17,10 @@ use Rattle.client.specs.Client.{ClientView}
 use Rattle.client.specs.Talk.{Given, wants}
 use Rattle.client.specs.Step.{IsClientStep, on_reply}
 use Rattle.events.specs.declared.event.Event.TheVariants.{Deliver, Again}
-use Rattle.worlds.specs.Slots.{ClientSlot, ClientSettles, ClientSettlesWhere}
+use Rattle.worlds.specs.Clients.{ClientSlot, ClientSettles, ClientSettlesWhere}
 use Rattle.worlds.specs.World.{WorldView, WorldNext, ClientAtGiven, ClientGiven, NodeReached, IsDelivered, with_client}
 use Rattle.worlds.specs.World as of_world
-use Rattle.proxies.specs.Proxy.{ProxyView, answers, asked_quiet, request_of, talk_of, AnswerIsReplied, AgainIsAsked}
+use Rattle.proxies.specs.Proxy.{ProxyView, answers, has_asked, request_of, talk_of, AnswerIsReplied, AgainIsAsked}
 use Rattle.hosts.specs.Host.{HostView}
 use Rattle.ensemble.specs.declared.answer.Answer.{Answer}
 use Rattle.ensemble.specs.Nodes.{NodesView, ProxyAnswers, IsPosted, AsksAgain}
@@ -89,19 +89,15 @@ answered_proxies ps index p q at client last = record {
 }
 
 -- what was asked under this number
-asked_under : (o : Option Asked) (number : ℕ) (quiet : Bool) → asked_quiet o number ≡ Some quiet → (a : Asked) × (o ≡ Some a) × (a.request.number ≡ number)
-asked_under None number quiet is = absurd (cc is)
-asked_under (Some a) number quiet is = by (a.request.number == number) refl
-  where
-    by : (same : Bool) → (a.request.number == number) ≡ same → (b : Asked) × (◌≡◌ {A = Option Asked} (Some a) (Some b)) × (b.request.number ≡ number)
-    by true e = (a, refl, eqb-true a.request.number number e)
-    by false e = absurd (let none : asked_quiet (Some a) number ≡ None = rw e refl in cc (sym none ∙ is))
+asked_under : (o : Option Asked) (number : ℕ) → has_asked o number ≡ true → (a : Asked) × (o ≡ Some a) × (a.request.number ≡ number)
+asked_under None number is = absurd (cc is)
+asked_under (Some a) number is = (a, refl, eqb-true a.request.number number is)
 
 -- the step of the client to which the reply comes
-replied : AnswerIsReplied → (u : ℕ) (p : ProxyView) (number : ℕ) (quiet : Bool) (reply : replies.Reply) → asked_quiet p.asked number ≡ Some quiet
+replied : AnswerIsReplied → (u : ℕ) (p : ProxyView) (number : ℕ) (reply : replies.Reply) → has_asked p.asked number ≡ true
     → (g : Given) × IsClientStep u p.client (talk_of p) (input.Reply number reply) g × (g.talk ≡ talk_of (answers p number)) × (g.letters ≡ [])
-replied law u p number quiet reply is =
-    let a = asked_under p.asked number quiet is in
+replied law u p number reply is =
+    let a = asked_under p.asked number is in
     let step = law u p a.0 reply a.1 in
     let g = on_reply u p.client (talk_of p) number reply in
     let at : g ≡ on_reply u p.client (talk_of p) a.0.request.number reply = ap (λ (k : ℕ). on_reply u p.client (talk_of p) k reply) (sym a.2) in
@@ -112,7 +108,7 @@ pub answered_goes : {cut : Option ℕ} → AnswerIsReplied → (n : NodesView) (
     → ProxyAnswers n.proxies client number reply proxies answer → Goes cut n (record n { proxies = proxies }) w
 answered_goes {cut} law n w l client number reply proxies answer like was to says r =
     let slot = slot_of n w r.index r.proxy like r.there in
-    let step = replied law n.u r.proxy number r.quiet reply r.was_asked in
+    let step = replied law n.u r.proxy number reply r.was_asked in
     let after : ClientSlot = record { client = record (client_of n.u r.proxy) { talk = step.0.talk }; given = slot.0.given ++ step.0.bytes } in
     let now = with_client w r.index after step.0.letters in
     let given = client_given n w r.index r.proxy slot.0 (input.Reply number reply) step.0 slot.1 slot.2 step.1 in

@@ -15,7 +15,7 @@ use Rattle.exec_lines.specs.declared.body.Body.TheVariants as body
 use Rattle.exec_lines.specs.declared.input.Input.{Input}
 use Rattle.exec_lines.specs.declared.input.Input.TheVariants as input
 use Rattle.verifier.specs.Verifier.{VerifierView}
-use Rattle.worlds.specs.Slot.{Slot}
+use Rattle.slots.specs.Slot.{Slot}
 use Rattle.hosts.specs.Host.{HostView, is_order, HostSettles, HostTakes, HostTakesWhere, HostReopens, HostCollects}
 use Rattle.ensemble.specs.declared.answer.Answer.{Answer}
 use Rattle.ensemble.specs.Nodes.{NodesView, size_of, AtHostIn, HostMoves, HostAdvances, VerifierMoves, ProxyReached, VerifiersReached, NodesReached, DeliversOf, Delivers, IsAskedBy, IsPosted, AsksAgain, RunsAll}

@@ -3,7 +3,7 @@ use Rattle.std.proofs.Common.{◌≡◌, inl, inr, ℕ, List, [], ◌∷◌, ◌
 use Rattle.std.specs.Prelude.{Bool}
 use Rattle.proto.specs.declared.reply.Reply as replies
 use Rattle.sessions.specs.declared.request.Request.{Request}
-use Rattle.worlds.specs.Runs.{RunIsSteps}
+use Rattle.slots.specs.Runs.{RunIsSteps}
 use Rattle.proxies.proofs.ProxyLemmas.{ask_is_fed, answer_is_replied, again_is_asked}
 use Rattle.ensemble.specs.declared.answer.Answer.{Answer}
 use Rattle.ensemble.specs.declared.noted.Noted.TheVariants as noted

@@ -29,7 +29,7 @@ use Rattle.decrees.proofs.ballot.Ballot.TheSendSync as ballot
 use Rattle.decrees.proofs.node.Node.TheSendSync as node
 use Rattle.decrees.proofs.node.Letter.TheSendSync as letter
 use Rattle.transfer.proofs.need.Need.TheSendSync as need
-use Rattle.worlds.proofs.slot.Slot.TheSendSync as slot
+use Rattle.slots.proofs.slot.Slot.TheSendSync as slot
 use Rattle.pages.specs.contracts.pages.Pages as pages
 use Rattle.states.specs.contracts.state.State as state
 use Rattle.executor.specs.contracts.tentative.Tentative as tentative

@@ -20,9 +20,9 @@ use Rattle.exec_lines.specs.Begun.{begin_of}
 use Rattle.exec_lines.specs.State.{ExecutorState, unchanged, to_first_verifiers, token_told, to_other_executors, runs_in_order}
 use Rattle.exec_lines.specs.Lines.{went_on, batch_of, has_number, requests_taken, cut_where, cut_batch, after_cut, ordered, may_cut, on_cut}
 use Rattle.exec_node.specs.Executor.{ExecutorView}
-use Rattle.worlds.specs.Slot.{Slot}
-use Rattle.worlds.specs.declared.slot.Slot.TheVariants.{Up, Down, Gone}
-use Rattle.worlds.specs.Slots.{ExecutorSettles}
+use Rattle.slots.specs.Slot.{Slot}
+use Rattle.slots.specs.declared.slot.Slot.TheVariants.{Up, Down, Gone}
+use Rattle.slots.specs.Slots.{ExecutorSettles}
 use Rattle.ensemble.specs.Shown.{may_give, would_cut}
 
 -- ---- lists

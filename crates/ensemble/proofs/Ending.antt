@@ -9,11 +9,11 @@ use Rattle.exec_node.specs.Executor.{ExecutorView}
 use Rattle.verifier.specs.Verifier.{VerifierView}
 use Rattle.events.specs.declared.event.Event.TheVariants.{Crash}
 use Rattle.events.specs.declared.event.Replica.TheVariants.{Executor, Verifier}
-use Rattle.worlds.specs.Slot.{Slot}
-use Rattle.worlds.specs.declared.slot.Slot.TheVariants.{Up, Down, Gone}
-use Rattle.worlds.specs.Slots.{executor_kept, verifier_kept, crashed_slot}
+use Rattle.slots.specs.Slot.{Slot}
+use Rattle.slots.specs.declared.slot.Slot.TheVariants.{Up, Down, Gone}
+use Rattle.slots.specs.Slots.{executor_kept, verifier_kept, crashed_slot}
 use Rattle.worlds.specs.World.{WorldView, WorldNext, changed_at}
-use Rattle.worlds.specs.Laws.{kept_at, is_gone}
+use Rattle.slots.specs.Status.{kept_at, is_gone}
 use Rattle.worlds.proofs.FirstLemmas.{get_seam, set_seam}
 use Rattle.hosts.specs.Host.{HostView}
 use Rattle.ensemble.specs.Nodes.{NodesView}

@@ -12,9 +12,9 @@ use Rattle.client.specs.Client.{ClientView}
 use Rattle.events.specs.Config.{ConfigView}
 use Rattle.events.specs.declared.event.Event.{Event}
 use Rattle.events.specs.declared.event.Event.TheVariants.{Cut}
-use Rattle.worlds.specs.Slot.{Slot}
-use Rattle.worlds.specs.declared.slot.Slot.TheVariants.{Up}
-use Rattle.worlds.specs.Slots.{ClientSlot}
+use Rattle.slots.specs.Slot.{Slot}
+use Rattle.slots.specs.declared.slot.Slot.TheVariants.{Up}
+use Rattle.worlds.specs.Clients.{ClientSlot}
 use Rattle.worlds.specs.World.{new_clients}
 use Rattle.worlds.specs.First.{first_executor, first_verifier, all_up, first_world}
 use Rattle.worlds.proofs.FirstLemmas.{reached_first, get_seam, length_all_up}

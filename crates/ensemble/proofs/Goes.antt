@@ -14,8 +14,7 @@ use Rattle.events.specs.declared.event.Event.TheVariants.{Cut}
 use Rattle.memcached_spec.specs.Asked.{IsAsked}
 use Rattle.proto.specs.declared.command.Command.{Command}
 use Rattle.events.specs.Config.{ConfigView}
-use Rattle.worlds.specs.World.{WorldView, WorldNext, WorldRuns, last_world, ReachedWorlds, EndsWith}
-use Rattle.worlds.specs.Laws.{IsReached}
+use Rattle.worlds.specs.World.{WorldView, WorldNext, WorldRuns, last_world, ReachedWorlds, EndsWith, IsReached}
 use Rattle.memcached_spec.specs.Fed.{fed_by, fed_to, IsMoment}
 use Rattle.worlds.specs.Asked.{WasSent}
 use Rattle.worlds.proofs.LeadLemmas.{LeadsTo, leads_nowhere, leads_append, runs_append, last_append}

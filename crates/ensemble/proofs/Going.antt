@@ -24,8 +24,8 @@ use Rattle.client.specs.declared.input.Input.TheVariants as client_input
 use Rattle.client.specs.RequestProofs.{client_number}
 use Rattle.client.specs.Talk.{Given, next_request, wants}
 use Rattle.events.specs.declared.event.Event.TheVariants.{Feed}
-use Rattle.worlds.specs.Slots.{ClientSlot}
-use Rattle.worlds.specs.Runs.{RunIsSteps}
+use Rattle.worlds.specs.Clients.{ClientSlot}
+use Rattle.slots.specs.Runs.{RunIsSteps}
 use Rattle.worlds.specs.World.{WorldView, WorldNext, with_client}
 use Rattle.memcached_spec.specs.Fed.{fed_by, fed_to}
 use Rattle.proxies.specs.Proxy.{ProxyView, asks, talk_of, AskIsFed, AnswerIsReplied, AgainIsAsked}

@@ -14,9 +14,9 @@ use Rattle.exec_node.specs.Laws.{gets_on}
 use Rattle.events.specs.declared.event.Event.{Event}
 use Rattle.events.specs.declared.event.Event.TheVariants.{Deliver, Cut, Step, Finish, Restart}
 use Rattle.events.specs.declared.event.Replica.TheVariants.{Executor}
-use Rattle.worlds.specs.Slot.{Slot}
-use Rattle.worlds.specs.Slots.{ExecutorSettles, ExecutorReopens}
-use Rattle.worlds.specs.Runs.{ExecutorSettlesAll, AllGetOn, RunIsSteps}
+use Rattle.slots.specs.Slot.{Slot}
+use Rattle.slots.specs.Slots.{ExecutorSettles, ExecutorReopens}
+use Rattle.slots.specs.Runs.{ExecutorSettlesAll, AllGetOn, RunIsSteps}
 use Rattle.worlds.specs.World.{WorldView, WorldNext, ExecutorAtGiven, ExecutorGiven, ExecutorAtOpened, NodeReached, IsDelivered, with_executor}
 use Rattle.memcached_spec.specs.Fed.{fed_by}
 use Rattle.worlds.proofs.FirstLemmas.{get_seam, set_seam}

@@ -4,7 +4,19 @@ use Rattle.std.proofs.lemmas.List.{append-nil}
 use Rattle.proto.specs.declared.reply.Reply as replies
 use Rattle.ensemble.specs.declared.answer.Answer.{Answer}
 use Rattle.ensemble.proofs.Moments.{Order}
-use Rattle.ensemble.specs.Ensemble.{Answers, answer_entry, answer_log, order_entry, order_log}
+use Rattle.ensemble.specs.Ensemble.{EnsembleView, KeepsLogs, Answers, answer_entry, answer_log, order_entry, order_log}
+
+-- what keeps the logs twice keeps them
+pub keeps_none : (e : EnsembleView) → KeepsLogs e e
+keeps_none e = record { asked = refl; found = refl; answered = refl; order = refl }
+
+pub keeps_more : (a b c : EnsembleView) → KeepsLogs a b → KeepsLogs b c → KeepsLogs a c
+keeps_more a b c f g = record {
+  asked = g.asked ∙ f.asked;
+  found = g.found ∙ f.found;
+  answered = g.answered ∙ f.answered;
+  order = g.order ∙ f.order;
+}
 
 abbrev Entries : Type 0
 Entries = List ((ℕ × ℕ) × replies.Reply)

@@ -11,8 +11,7 @@ use Rattle.proto.proofs.SpellsLemmas.{spells_one}
 use Rattle.sessions.specs.declared.request.Request.{Request}
 use Rattle.events.specs.declared.event.Event.{Event}
 use Rattle.events.specs.Config.{ConfigView}
-use Rattle.worlds.specs.World.{WorldView, WorldRuns, last_world, ReachedWorlds, EndsWith}
-use Rattle.worlds.specs.Laws.{IsReached}
+use Rattle.worlds.specs.World.{WorldView, WorldRuns, last_world, ReachedWorlds, EndsWith, IsReached}
 use Rattle.worlds.specs.Asked.{WasSent}
 use Rattle.memcached_spec.specs.Fed.{fed_to, IsMoment}
 use Rattle.memcached_spec.specs.Asked as spelled

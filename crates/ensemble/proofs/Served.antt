@@ -10,8 +10,8 @@ use Rattle.decrees.specs.declared.node.Letter.{Letter}
 use Rattle.exec_lines.specs.declared.body.Body.{Body}
 use Rattle.exec_lines.specs.declared.input.Input.TheVariants.{Cut}
 use Rattle.verifier.specs.Verifier.{VerifierView}
-use Rattle.worlds.specs.Slot.{Slot}
-use Rattle.worlds.specs.World.{as_sent}
+use Rattle.slots.specs.Slot.{Slot}
+use Rattle.slots.specs.Sending.{as_sent}
 use Rattle.proxies.specs.Proxy.{ProxyView}
 use Rattle.hosts.specs.Host.{HostView, HostSettles}
 use Rattle.hosts.specs.Orders.{has_due}

@@ -10,7 +10,7 @@ use Rattle.decrees.specs.declared.node.Node.TheVariants as node
 use Rattle.exec_lines.specs.declared.body.Body.{Body}
 use Rattle.exec_lines.specs.declared.body.Body.TheVariants as body
 use Rattle.verifier.specs.Verifier.{VerifierView}
-use Rattle.worlds.specs.Slot.{Slot}
+use Rattle.slots.specs.Slot.{Slot}
 use Rattle.proxies.specs.Proxy.{ProxyView, asks, answers}
 use Rattle.hosts.specs.Host.{HostView}
 use Rattle.ensemble.specs.declared.answer.Answer.{Answer}

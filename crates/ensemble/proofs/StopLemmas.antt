@@ -10,11 +10,12 @@ use Rattle.exec_lines.specs.declared.body.Body.{Body}
 use Rattle.exec_node.specs.Executor.{ExecutorView}
 use Rattle.verifier.specs.Verifier.{VerifierView}
 use Rattle.keeper.specs.Kept.{Kept}
-use Rattle.worlds.specs.Slot.{Slot}
-use Rattle.worlds.specs.declared.slot.Slot.TheVariants.{Up, Down, Gone}
-use Rattle.worlds.specs.Slots.{executor_kept, verifier_kept, crashed_slot}
-use Rattle.worlds.specs.World.{WorldView, as_sent, with_executor, with_verifier}
-use Rattle.worlds.specs.Status.{node_at}
+use Rattle.slots.specs.Slot.{Slot}
+use Rattle.slots.specs.declared.slot.Slot.TheVariants.{Up, Down, Gone}
+use Rattle.slots.specs.Slots.{executor_kept, verifier_kept, crashed_slot}
+use Rattle.worlds.specs.World.{WorldView, with_executor, with_verifier}
+use Rattle.slots.specs.Sending.{as_sent}
+use Rattle.slots.specs.Status.{node_at}
 use Rattle.hosts.specs.Host.{HostView}
 use Rattle.hosts.specs.Stops.{HostStops}
 use Rattle.ensemble.specs.Nodes.{NodesView, AtHostIn, HostMoves, AtVerifierIn, VerifierMoves}

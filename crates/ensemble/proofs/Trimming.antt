@@ -1,7 +1,7 @@
 -- Which verifiers were told to forget old decrees.
 use Rattle.std.proofs.Common.{◌≡◌, ◌≢◌, ⊎_elim, ℕ, ◌+◌, ◌<◌, List, Option, None, Some, slice_get, refl, sym, ap, ◌∙◌, subst, arith}
 use Rattle.verifier.specs.Verifier.{VerifierView}
-use Rattle.worlds.specs.Slot.{Slot}
+use Rattle.slots.specs.Slot.{Slot}
 use Rattle.ensemble.specs.Nodes.{NodesView, AtVerifierIn, VerifierMoves}
 use Rattle.ensemble.specs.Trimming.{VerifierTrimsDue, AreTrimmedBelow}
 use Rattle.ensemble.proofs.Lists.{set_get, get_other}

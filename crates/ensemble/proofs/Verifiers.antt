@@ -15,9 +15,10 @@ use Rattle.verifier.specs.Verifier.{VerifierView}
 use Rattle.events.specs.declared.event.Event.{Event}
 use Rattle.events.specs.declared.event.Event.TheVariants.{Deliver, Suspect, Trim, Restart}
 use Rattle.events.specs.declared.event.Replica.TheVariants.{Verifier}
-use Rattle.worlds.specs.Slot.{Slot}
-use Rattle.worlds.specs.Slots.{VerifierSettles}
-use Rattle.worlds.specs.World.{WorldView, WorldNext, VerifierAtGiven, VerifierGiven, VerifierAtOpened, NodeReached, IsDelivered, as_sent, with_verifier}
+use Rattle.slots.specs.Slot.{Slot}
+use Rattle.slots.specs.Slots.{VerifierSettles}
+use Rattle.worlds.specs.World.{WorldView, WorldNext, VerifierAtGiven, VerifierGiven, VerifierAtOpened, NodeReached, IsDelivered, with_verifier}
+use Rattle.slots.specs.Sending.{as_sent}
 use Rattle.worlds.specs.World as of_world
 use Rattle.memcached_spec.specs.Fed.{fed_by}
 use Rattle.hosts.specs.Host.{HostView}

@@ -6,8 +6,8 @@ use Rattle.events.specs.declared.event.Replica.{Replica}
 use Rattle.events.specs.declared.event.Replica.TheVariants as replica
 use Rattle.exec_lines.specs.declared.body.Body.{Body}
 use Rattle.verifier.specs.Verifier.{VerifierView}
-use Rattle.worlds.specs.Slot.{Slot}
-use Rattle.worlds.specs.Slots.{verifier_kept, crashed_slot}
+use Rattle.slots.specs.Slot.{Slot}
+use Rattle.slots.specs.Slots.{verifier_kept, crashed_slot}
 use Rattle.hosts.specs.Host.{HostView, HostReopens}
 use Rattle.hosts.specs.Stops.{HostStops}
 use Rattle.ensemble.specs.Nodes.{NodesView, AtHost, HostMoves, AtVerifier, VerifierMoves, VerifierOpens, RunsAll}

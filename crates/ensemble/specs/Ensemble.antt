@@ -14,8 +14,7 @@ use Rattle.client.specs.Client.{ClientView}
 use Rattle.events.specs.declared.event.Event.{Event}
 use Rattle.events.specs.declared.event.Event.TheVariants.{Cut}
 use Rattle.events.specs.Config.{ConfigView}
-use Rattle.worlds.specs.World.{WorldView}
-use Rattle.worlds.specs.Laws.{IsReached}
+use Rattle.worlds.specs.World.{WorldView, IsReached}
 use Rattle.memcached_spec.specs.Fed.{fed_to, IsMoment}
 use Rattle.memcached_spec.specs.Asked.{IsAsked}
 use Rattle.worlds.specs.Asked.{WasSent}
@@ -75,6 +74,13 @@ order_log (Some a) = order_entry a ∷ []
 -- a moment that was handed in. No proxy has the number 0
 abbrev pub moment_entry : ℕ → (ℕ × ℕ) × Noted
 moment_entry moment = ((0, moment), noted.Moment)
+
+-- nothing more was asked or answered
+pub record KeepsLogs (e now : EnsembleView) : Type 0 where
+  pub asked : now.asked ≡ e.asked
+  pub found : now.found ≡ e.found
+  pub answered : now.answered ≡ e.answered
+  pub order : now.order ≡ e.order
 
 -- one more request was asked: this one
 pub record IsLogged (asked : List (Request × Bool)) (proxy number : ℕ) (command : Command) (quiet : Bool) (now : List (Request × Bool)) : Type 0 where

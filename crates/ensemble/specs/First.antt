@@ -3,7 +3,7 @@ use Rattle.std.specs.Prelude.{◌≡◌, ℕ, zero, suc, ◌+◌, ◌*◌, ◌<�
 use Rattle.decrees.specs.Count.{member_count}
 use Rattle.events.specs.Config.{ConfigView}
 use Rattle.events.specs.declared.event.Replica.TheVariants.{Executor, Verifier}
-use Rattle.worlds.specs.declared.slot.Slot.TheVariants.{Up}
+use Rattle.slots.specs.declared.slot.Slot.TheVariants.{Up}
 use Rattle.worlds.specs.First.{first_executor, first_verifier, all_up}
 use Rattle.proxies.specs.Proxy.{ProxyView}
 use Rattle.hosts.specs.Host.{HostView}

@@ -1,5 +1,5 @@
 -- All nodes with the letters that are under way, and what one call does of them.
-use Rattle.std.specs.Prelude.{◌≡◌, ◌⊎◌, ℕ, suc, Bool, List, [], ◌∷◌, ◌++◌, length, map, Option, None, Some, slice_get, slice_set, Contains, refl}
+use Rattle.std.specs.Prelude.{◌≡◌, ◌⊎◌, ℕ, suc, Bool, true, List, [], ◌∷◌, ◌++◌, length, map, Option, None, Some, slice_get, slice_set, Contains, refl}
 use Rattle.std.specs.Coded.{Coded, code_by, coded×, coded_ℕ, coded_list}
 use Rattle.proto.specs.declared.command.Command.{Command}
 use Rattle.proto.specs.declared.reply.Reply as replies
@@ -14,10 +14,10 @@ use Rattle.verifier.specs.Verifier.{VerifierView}
 use Rattle.exec_lines.specs.declared.body.Body.{Body}
 use Rattle.exec_lines.specs.declared.body.Body.TheVariants as body
 use Rattle.client.specs.Talk.{next_request, wants}
-use Rattle.worlds.specs.Slot.{Slot}
-use Rattle.worlds.specs.Slots.{VerifierSettles, VerifierReopens}
-use Rattle.worlds.specs.World.{as_sent}
-use Rattle.proxies.specs.Proxy.{ProxyView, asks, answers, asked_quiet, request_of}
+use Rattle.slots.specs.Slot.{Slot}
+use Rattle.slots.specs.Slots.{VerifierSettles, VerifierReopens}
+use Rattle.slots.specs.Sending.{as_sent}
+use Rattle.proxies.specs.Proxy.{ProxyView, asks, answers, has_asked, request_of}
 use Rattle.hosts.specs.Host.{HostView, HostTakes, HostRuns, HostObeys, HostForgets}
 use Rattle.ensemble.specs.declared.answer.Answer.{Answer}
 
@@ -100,10 +100,9 @@ pub record ProxyAnswers (proxies : List ProxyView) (client number : ℕ) (reply 
   pub at : client ≡ suc index
   pub proxy : ProxyView
   pub there : slice_get proxies index ≡ Some proxy
-  pub quiet : Bool
-  pub was_asked : asked_quiet proxy.asked number ≡ Some quiet
+  pub was_asked : has_asked proxy.asked number ≡ true
   pub after : now ≡ slice_set proxies index (answers proxy number)
-  pub is : answer ≡ Some (record { proxy = client; number = number; reply = reply; quiet = quiet })
+  pub is : answer ≡ Some (record { proxy = client; number = number; reply = reply })
 
 -- a reply comes to the proxy of this number: the request is answered, or nothing is done
 abbrev pub ProxyGets : List ProxyView → ℕ → ℕ → replies.Reply → List ProxyView → Option Answer → Type 0

@@ -11,8 +11,8 @@ use Rattle.exec_lines.specs.declared.body.Body.{Body}
 use Rattle.exec_lines.specs.declared.body.Body.TheVariants.{Want}
 use Rattle.verifier.specs.Verifier.{VerifierView}
 use Rattle.client.specs.Talk.{client_letter, wants}
-use Rattle.worlds.specs.Slot.{Slot}
-use Rattle.worlds.specs.World.{as_sent}
+use Rattle.slots.specs.Slot.{Slot}
+use Rattle.slots.specs.Sending.{as_sent}
 use Rattle.hosts.specs.Host.{HostView}
 use Rattle.hosts.specs.Orders.{has_due}
 use Rattle.ensemble.specs.Nodes.{NodesView, AtVerifier}

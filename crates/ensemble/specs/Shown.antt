@@ -8,8 +8,8 @@ use Rattle.exec_lines.specs.Lines.{may_cut, has_number, requests_taken}
 use Rattle.exec_node.specs.Executor.{ExecutorView}
 use Rattle.events.specs.declared.event.Replica.{Replica}
 use Rattle.events.specs.declared.event.Replica.TheVariants.{Executor, Verifier}
-use Rattle.worlds.specs.Slot.{Slot}
-use Rattle.worlds.specs.Status.{node_at}
+use Rattle.slots.specs.Slot.{Slot}
+use Rattle.slots.specs.Status.{node_at}
 use Rattle.proxies.specs.Proxy.{ProxyView, request_of}
 use Rattle.hosts.specs.Host.{HostView}
 use Rattle.hosts.specs.Shown.{job_len_of, epoch_of}

@@ -2,13 +2,13 @@
 use Rattle.std.specs.Prelude.{◌≡◌, ℕ, ◌+◌, ◌-◌, ◌<◌, ◌≤◌, List, [], Option, None, Some, nat_le, slice_get, if◌then◌else◌}
 use Rattle.decrees.specs.declared.ballot.Ballot.{Ballot}
 use Rattle.decrees.specs.declared.node.Letter.{Letter}
-use Rattle.serving.specs.declared.trimming.TheConstants.{MOST_DECREES, LEFT_DECREES}
+use Rattle.housekeeping.specs.declared.trimming.TheConstants.{MOST_DECREES, LEFT_DECREES}
 use Rattle.verifier.specs.declared.input.Input.TheVariants.{Trim}
 use Rattle.verifier.specs.State.{known}
 use Rattle.verifier.specs.Verifier.{VerifierView}
-use Rattle.worlds.specs.Slot.{Slot}
-use Rattle.worlds.specs.Slots.{VerifierSettles}
-use Rattle.worlds.specs.Status.{node_at}
+use Rattle.slots.specs.Slot.{Slot}
+use Rattle.slots.specs.Slots.{VerifierSettles}
+use Rattle.slots.specs.Status.{node_at}
 use Rattle.ensemble.specs.Nodes.{NodesView}
 
 -- the place up to which decrees are forgotten by one that knows so many, and has forgotten those up to the place `start`

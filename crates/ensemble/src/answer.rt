@@ -7,6 +7,4 @@ pub struct Answer {
     /// The number of the request.
     pub number: u64,
     pub reply: Reply,
-    /// Whether the reply is left out of what the connection is given.
-    pub quiet: bool,
 }

@@ -14,9 +14,9 @@ use exec_lines::Body;
 use hosts::ExecutorHost;
 use proto::Reply;
 use proxies::Proxy;
+use slots::VerifierSlot;
 use std::alloc::Global;
 use verifier::Input;
-use worlds::VerifierSlot;
 
 /// The host of this number gets the letter, if it is there: what its executor sends. An order that cannot be held is
 /// lost, which is counted.
@@ -65,12 +65,13 @@ fn to_proxy(proxies: &mut Vec<Proxy>, client: u16, number: u64, reply: Reply) ->
         return None;
     }
     let asking = proxies.get_mut(usize::from(client - 1))?;
-    let quiet = asking.answer(number)?;
+    if !asking.answer(number) {
+        return None;
+    }
     Some(Answer {
         proxy: client,
         number,
         reply,
-        quiet,
     })
 }
 

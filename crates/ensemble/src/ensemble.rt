@@ -9,15 +9,15 @@ use crate::process_record::ProcessRecord;
 use crate::progress::Progress;
 use crate::refusing::refuse;
 use crate::times::{Stopwatch, Times};
-use http_server::Log;
+use events::Replica;
+use ghost_log::GhostLog;
+use housekeeping::Seen;
 use proto::{Command, Fault, Reply};
-use serving::Seen;
 use sessions::Request;
 use std::alloc::Global;
 use std::marker::Model;
 use std::sync::Wait;
 use std::thread::Threads;
-use worlds::Replica;
 
 /// All replicas, their proxies, and the letters that are under way. It cannot be dropped, since executors
 /// cannot: `end` ends it. Proxies are numbered from 1, replicas from 0.
@@ -26,14 +26,14 @@ pub struct Ensemble {
     pub(crate) progress: Progress,
     pub(crate) stopwatch: Stopwatch,
     /// Each request that was asked, and whether its reply is left out.
-    pub(crate) asked: Log<Request, bool>,
+    pub(crate) asked: GhostLog<Request, bool>,
     /// Each answer: the proxy and the request's number, and the reply.
-    pub(crate) answered: Log<(u16, u64), Reply>,
+    pub(crate) answered: GhostLog<(u16, u64), Reply>,
     /// In which order requests were asked and answered, by the proxy and the request's number. Between them are the
     /// moments that were handed in, each under the proxy 0, which there is none of.
-    pub(crate) order: Log<(u16, u64), Noted>,
+    pub(crate) order: GhostLog<(u16, u64), Noted>,
     /// What its process began with, if it began with what was kept of another one.
-    pub(crate) found: Log<ProcessRecord, bool>,
+    pub(crate) found: GhostLog<ProcessRecord, bool>,
     /// How often something was refused.
     pub(crate) refused: u64,
 }
@@ -67,7 +67,7 @@ impl Ensemble {
     ghost use Rattle.ensemble.specs.Served.{IsUnderWay, letters_again, VerifierPosts};
     ghost use Rattle.memcached_spec.specs.Asked.{HasText};
     ghost use Rattle.ensemble.specs.declared.noted.Noted.TheVariants as noted;
-    ghost use Rattle.ensemble.specs.Ensemble.{IsLogged, answer_log};
+    ghost use Rattle.ensemble.specs.Ensemble.{IsLogged, KeepsLogs, answer_log};
     ghost use Rattle.ensemble.specs.Process.{IsEnsembleAfter};
 
     /// What is there is what events lead a world to: that world is like it, what its clients were fed is
@@ -132,10 +132,7 @@ impl Ensemble {
     /// What the proxy of this number has outstanding is sent to all executors once more, if it has something
     /// outstanding. If there is no memory for that it is lost, which is counted (`refused`).
     pub fn again(&mut self, alloc: Global, proxy: u16)
-        ensures asked { self.new.asked ≡ self.old.asked }
-        ensures found { self.new.found ≡ self.old.found }
-        ensures answered { self.new.answered ≡ self.old.answered }
-        ensures order { self.new.order ≡ self.old.order }
+        ensures logs { KeepsLogs self.old self.new }
         ensures counted { self.old.refused ≤ self.new.refused }
         ensures size { size_of self.new.nodes ≡ size_of self.old.nodes }
         ensures waits { AllCollected self.old.nodes → AllCollected self.new.nodes }
@@ -148,10 +145,7 @@ impl Ensemble {
     /// Tells the verifier of this number, if it is there and up, that the leader is suspected. If there is no memory
     /// for what it sends, that is lost, which is counted (`refused`).
     pub fn suspect(&mut self, alloc: Global, verifier: u8)
-        ensures asked { self.new.asked ≡ self.old.asked }
-        ensures found { self.new.found ≡ self.old.found }
-        ensures answered { self.new.answered ≡ self.old.answered }
-        ensures order { self.new.order ≡ self.old.order }
+        ensures logs { KeepsLogs self.old self.new }
         ensures told { VerifierMoves (VerifierGets Suspect) verifier self.old.nodes self.new.nodes }
         ensures counted { self.old.refused ≤ self.new.refused }
         ensures size { size_of self.new.nodes ≡ size_of self.old.nodes }
@@ -164,10 +158,7 @@ impl Ensemble {
 
     /// Opens an executor, if it is there and down.
     fn open_executor(&mut self, alloc: Global, id: u8)
-        ensures asked { self.new.asked ≡ self.old.asked }
-        ensures found { self.new.found ≡ self.old.found }
-        ensures answered { self.new.answered ≡ self.old.answered }
-        ensures order { self.new.order ≡ self.old.order }
+        ensures logs { KeepsLogs self.old self.new }
         ensures counted { self.old.refused ≤ self.new.refused }
         ensures size { size_of self.new.nodes ≡ size_of self.old.nodes }
         ensures waits { AllCollected self.old.nodes → AllCollected self.new.nodes }
@@ -180,10 +171,7 @@ impl Ensemble {
 
     /// Opens a verifier, if it is there and down.
     fn open_verifier(&mut self, alloc: Global, id: u8)
-        ensures asked { self.new.asked ≡ self.old.asked }
-        ensures found { self.new.found ≡ self.old.found }
-        ensures answered { self.new.answered ≡ self.old.answered }
-        ensures order { self.new.order ≡ self.old.order }
+        ensures logs { KeepsLogs self.old self.new }
         ensures counted { self.old.refused ≤ self.new.refused }
         ensures size { size_of self.new.nodes ≡ size_of self.old.nodes }
         ensures waits { AllCollected self.old.nodes → AllCollected self.new.nodes }
@@ -196,10 +184,7 @@ impl Ensemble {
 
     /// Opens the replica, if it is there and down.
     fn open_replica(&mut self, alloc: Global, replica: Replica)
-        ensures asked { self.new.asked ≡ self.old.asked }
-        ensures found { self.new.found ≡ self.old.found }
-        ensures answered { self.new.answered ≡ self.old.answered }
-        ensures order { self.new.order ≡ self.old.order }
+        ensures logs { KeepsLogs self.old self.new }
         ensures counted { self.old.refused ≤ self.new.refused }
         ensures size { size_of self.new.nodes ≡ size_of self.old.nodes }
         ensures waits { AllCollected self.old.nodes → AllCollected self.new.nodes }
@@ -225,10 +210,7 @@ impl Ensemble {
     /// record, and what it sends is under way; each other replica is as it was. If it is not up then, or there is no
     /// memory for what it sends, that is counted (`refused`).
     pub fn restart(&mut self, alloc: Global, replica: Replica) -> bool
-        ensures asked { self.new.asked ≡ self.old.asked }
-        ensures found { self.new.found ≡ self.old.found }
-        ensures answered { self.new.answered ≡ self.old.answered }
-        ensures order { self.new.order ≡ self.old.order }
+        ensures logs { KeepsLogs self.old self.new }
         ensures up { result ≡ is_up_at self.new.nodes replica }
         ensures counted { self.old.refused ≤ self.new.refused }
         ensures size { size_of self.new.nodes ≡ size_of self.old.nodes }

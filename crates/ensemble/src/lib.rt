@@ -39,6 +39,8 @@ mod working;
 
 pub use answer::Answer;
 pub use ensemble::Ensemble;
+pub use events::{Config, Replica};
+pub use housekeeping::Seen;
 pub use nodes::Nodes;
 pub use noted::Noted;
 pub use opening::first_proxies;
@@ -47,6 +49,4 @@ pub use process_laws::{
     processes_follow_each_other,
 };
 pub use process_record::ProcessRecord;
-pub use serving::Seen;
 pub use times::Times;
-pub use worlds::{Config, Replica};

@@ -7,9 +7,9 @@ use decrees::{Letter, Node};
 use exec_lines::Body;
 use hosts::ExecutorHost;
 use proxies::Proxy;
+use slots::VerifierSlot;
 use std::collections::VecDeque;
 use std::marker::Model;
-use worlds::VerifierSlot;
 
 /// All replicas, their proxies, and the letters that are under way. It cannot be dropped, since executors
 /// cannot: `end` ends it. Each of its methods is one event at most.
@@ -26,7 +26,7 @@ impl Model for Nodes {
     ghost use Rattle.proxies.specs.contracts.proxy.Proxy as proxy;
     ghost use Rattle.hosts.specs.contracts.executor_host.ExecutorHost as host;
     ghost use Rattle.verifier.specs.contracts.state.State as verifier;
-    ghost use Rattle.worlds.specs.UpSlots.{verifier_slot_code};
+    ghost use Rattle.slots.specs.UpSlots.{verifier_slot_code};
     ghost use Rattle.decrees.specs.contracts.node.Letter as letter;
     ghost use Rattle.exec_lines.specs.contracts.body.Body as body;
     ghost use Rattle.ensemble.specs.Nodes.{NodesView, AreNumbered, nodes_code};

@@ -1,7 +1,7 @@
 //! The ensemble before the first request.
 
 ghost use Rattle.std.specs.Prelude.{◌≡◌, ◌<◌, ◌≤◌, ◌*◌, ◌+◌, IfOk, [], None};
-ghost use Rattle.worlds.specs.declared.slot.Slot.TheVariants.{Up};
+ghost use Rattle.slots.specs.declared.slot.Slot.TheVariants.{Up};
 ghost use Rattle.worlds.specs.First.{first_verifier, all_up};
 ghost use Rattle.ensemble.specs.First.{first_proxies_of, first_hosts, first_host, first_nodes};
 
@@ -9,13 +9,14 @@ use crate::ensemble::Ensemble;
 use crate::nodes::{Nodes, end_executors};
 use crate::progress::Progress;
 use crate::times::Stopwatch;
+use events::Config;
+use ghost_log::GhostLog;
 use hosts::ExecutorHost;
-use http_server::Log;
 use proto::Fault;
 use proxies::Proxy;
+use slots::VerifierSlot;
 use std::alloc::{AllocError, Global};
 use std::collections::VecDeque;
-use worlds::{Config, VerifierSlot};
 
 /// So many proxies that have asked nothing.
 pub fn first_proxies(alloc: Global, count: u16) -> Result<Vec<Proxy>, AllocError>
@@ -132,10 +133,10 @@ impl Ensemble {
             nodes,
             progress,
             stopwatch: Stopwatch::NEW,
-            asked: Log::new(),
-            answered: Log::new(),
-            order: Log::new(),
-            found: Log::new(),
+            asked: GhostLog::new(),
+            answered: GhostLog::new(),
+            order: GhostLog::new(),
+            found: GhostLog::new(),
             refused: 0,
         })
     }

@@ -1,15 +1,15 @@
 //! What nodes send is under way.
 
 ghost use Rattle.std.specs.Prelude.{◌≡◌, ◌<◌, ◌≤◌, ◌-◌, ◌^◌, ◌++◌, map};
-ghost use Rattle.worlds.specs.World.{as_sent};
+ghost use Rattle.slots.specs.Sending.{as_sent};
 ghost use Rattle.ensemble.specs.Nodes.{MayGrow};
 
 use crate::refusing::refuse;
 use decrees::{Ballot, Letter};
 use exec_lines::Body;
+use slots::send_ballots;
 use std::alloc::Global;
 use std::collections::VecDeque;
-use worlds::send_ballots;
 
 /// These are under way too. They are lost if there is no memory for them, which is counted.
 pub fn post(mail: &mut VecDeque<Letter<Body>>, sent: Vec<Letter<Body>>, refused: &mut u64)

@@ -9,10 +9,10 @@ use exec_lines::ExecutorRecord;
 use hosts::ExecutorHost;
 use keeper::MemKeeper;
 use proxies::Proxy;
+use slots::VerifierSlot;
 use std::alloc::{AllocError, Global};
 use std::collections::VecDeque;
 use std::marker::Model;
-use worlds::VerifierSlot;
 
 /// What is kept of the replicas and the proxies of a process, at one moment: what the keeper of each replica has, and what
 /// each proxy asked last. Another process goes on from it.

@@ -1,7 +1,7 @@
 //! How far the executors have come.
 
 use hosts::ExecutorHost;
-use serving::Seen;
+use housekeeping::Seen;
 use std::alloc::{AllocError, Global};
 
 /// How far all executors have come.

@@ -10,13 +10,13 @@ use crate::progress::Progress;
 use crate::times::Stopwatch;
 use base::Text;
 use exec_lines::ExecutorRecord;
+use ghost_log::GhostLog;
 use hosts::ExecutorHost;
-use http_server::Log;
 use keeper::MemKeeper;
 use proto::Fault;
 use proxies::Proxy;
+use slots::VerifierSlot;
 use std::alloc::{AllocError, Global};
-use worlds::VerifierSlot;
 
 /// These proxies once more.
 fn copied(alloc: Global, proxies: &[Proxy]) -> Result<Vec<Proxy>, AllocError>
@@ -60,7 +60,7 @@ fn kept_verifiers(
 impl Nodes {
     ghost use Rattle.std.specs.Prelude.{◌≡◌, Some, IfOk};
     ghost use Rattle.std.specs.List.{list_any};
-    ghost use Rattle.worlds.specs.Laws.{is_gone};
+    ghost use Rattle.slots.specs.Status.{is_gone};
     ghost use Rattle.ensemble.specs.Kept.{process_of};
 
     /// Whether an executor is lost for good.
@@ -121,15 +121,15 @@ impl Ensemble {
         ensures only { IfErr result (λ fault. fault ≡ Fault.NoMemory) }
     {
         let progress = Progress::new(alloc, 2 * found.u + 1)?;
-        let log = Log::new().and(&found, &true);
+        let log = GhostLog::new().and(&found, &true);
         let nodes = found.begun(alloc)?;
         Ok(Ensemble {
             nodes,
             progress,
             stopwatch: Stopwatch::NEW,
-            asked: Log::new(),
-            answered: Log::new(),
-            order: Log::new(),
+            asked: GhostLog::new(),
+            answered: GhostLog::new(),
+            order: GhostLog::new(),
             found: log,
             refused: 0,
         })

@@ -7,8 +7,9 @@ ghost use Rattle.ensemble.specs.Calls.{VerifierCrashes};
 
 use crate::ensemble::Ensemble;
 use crate::nodes::Nodes;
+use events::Replica;
 use hosts::ExecutorHost;
-use worlds::{Replica, VerifierSlot};
+use slots::VerifierSlot;
 
 /// The executor of this number stops, if it is there.
 fn stop_executor(executors: &mut Vec<ExecutorHost>, id: u8)
@@ -50,16 +51,14 @@ impl Nodes {
 impl Ensemble {
     ghost use Rattle.std.specs.Prelude.{◌≡◌, false};
     ghost use Rattle.events.specs.declared.event.Replica.TheVariants as replica;
+    ghost use Rattle.ensemble.specs.Ensemble.{KeepsLogs};
     ghost use Rattle.ensemble.specs.Nodes.{size_of};
     ghost use Rattle.ensemble.specs.Shown.{is_up_at};
     ghost use Rattle.ensemble.specs.Calls.{IsStopped, AllCollected};
 
     /// Stops an executor, if it is there and up.
     fn stop_executor(&mut self, id: u8)
-        ensures asked { self.new.asked ≡ self.old.asked }
-        ensures found { self.new.found ≡ self.old.found }
-        ensures answered { self.new.answered ≡ self.old.answered }
-        ensures order { self.new.order ≡ self.old.order }
+        ensures logs { KeepsLogs self.old self.new }
         ensures refused { self.new.refused ≡ self.old.refused }
         ensures size { size_of self.new.nodes ≡ size_of self.old.nodes }
         ensures waits { AllCollected self.old.nodes → AllCollected self.new.nodes }
@@ -70,10 +69,7 @@ impl Ensemble {
 
     /// Stops a verifier, if it is there and up.
     fn stop_verifier(&mut self, id: u8)
-        ensures asked { self.new.asked ≡ self.old.asked }
-        ensures found { self.new.found ≡ self.old.found }
-        ensures answered { self.new.answered ≡ self.old.answered }
-        ensures order { self.new.order ≡ self.old.order }
+        ensures logs { KeepsLogs self.old self.new }
         ensures refused { self.new.refused ≡ self.old.refused }
         ensures size { size_of self.new.nodes ≡ size_of self.old.nodes }
         ensures waits { AllCollected self.old.nodes → AllCollected self.new.nodes }
@@ -86,10 +82,7 @@ impl Ensemble {
     /// lost. `restart` opens it again. The letters that are under way to it stay so, and each other replica is as it was.
     #[tactic(auto, using(crate::proofs::StopLemmas::stopped_is_down))]
     pub fn stop(&mut self, replica: Replica)
-        ensures asked { self.new.asked ≡ self.old.asked }
-        ensures found { self.new.found ≡ self.old.found }
-        ensures answered { self.new.answered ≡ self.old.answered }
-        ensures order { self.new.order ≡ self.old.order }
+        ensures logs { KeepsLogs self.old self.new }
         ensures refused { self.new.refused ≡ self.old.refused }
         ensures size { size_of self.new.nodes ≡ size_of self.old.nodes }
         ensures waits { AllCollected self.old.nodes → AllCollected self.new.nodes }

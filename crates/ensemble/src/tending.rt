@@ -13,10 +13,10 @@ use crate::posting::{post, post_ballots};
 use decrees::{Ballot, Letter};
 use exec_lines::Body;
 use hosts::ExecutorHost;
-use serving::due_trim;
+use housekeeping::due_trim;
+use slots::VerifierSlot;
 use std::alloc::Global;
 use verifier::Input;
-use worlds::VerifierSlot;
 
 /// The host of this number, if it is there, hands in the order whose turn has come: whether there was one, and
 /// what is sent.

@@ -6,11 +6,11 @@ use crate::answer::Answer;
 use crate::ensemble::Ensemble;
 use crate::noted::Noted;
 use crate::refusing::refuse;
+use slots::a_run_is_steps;
 use std::alloc::Global;
 use std::rt::Clock;
 use std::sync::Wait;
 use std::thread::Threads;
-use worlds::a_run_is_steps;
 
 /// The most letters that are delivered before anything else is done.
 const MOST_LETTERS: u32 = 1 << 20;
@@ -29,7 +29,7 @@ impl Ensemble {
     ghost use Rattle.ensemble.specs.Calls.{HostPosts, RefusedNothing, sent_below, CollectedBelow, HaveRun, AllCollected};
     ghost use Rattle.ensemble.specs.Served.{NoBatchAt, NoBatchBelow, IsAtRest};
     ghost use Rattle.ensemble.specs.Moments.{IsNow};
-    ghost use Rattle.ensemble.specs.Ensemble.{answer_entry, answer_log, order_entry, order_log, moment_entry, Answers};
+    ghost use Rattle.ensemble.specs.Ensemble.{KeepsLogs, answer_entry, answer_log, order_entry, order_log, moment_entry, Answers};
 
     /// The first letter that is under way comes: what it answers.
     fn deliver(&mut self, alloc: Global) -> Option<Answer>
@@ -108,10 +108,7 @@ impl Ensemble {
 
     /// The executor of this number gets the order that its host holds, if its turn has come: whether it has.
     fn take_held(&mut self, alloc: Global, id: u8) -> bool
-        ensures asked { self.new.asked ≡ self.old.asked }
-        ensures found { self.new.found ≡ self.old.found }
-        ensures answered { self.new.answered ≡ self.old.answered }
-        ensures order { self.new.order ≡ self.old.order }
+        ensures logs { KeepsLogs self.old self.new }
         ensures counted { self.old.refused ≤ self.new.refused }
         ensures size { size_of self.new.nodes ≡ size_of self.old.nodes }
         ensures waits { AllCollected self.old.nodes → AllCollected self.new.nodes }
@@ -122,10 +119,7 @@ impl Ensemble {
 
     /// Each executor gets the order whose turn has come: whether there was one.
     fn take_orders(&mut self, alloc: Global) -> bool
-        ensures asked { self.new.asked ≡ self.old.asked }
-        ensures found { self.new.found ≡ self.old.found }
-        ensures answered { self.new.answered ≡ self.old.answered }
-        ensures order { self.new.order ≡ self.old.order }
+        ensures logs { KeepsLogs self.old self.new }
         ensures counted { self.old.refused ≤ self.new.refused }
         ensures size { size_of self.new.nodes ≡ size_of self.old.nodes }
         ensures waits { AllCollected self.old.nodes → AllCollected self.new.nodes }
@@ -141,10 +135,7 @@ impl Ensemble {
 
     /// Each executor that has a job runs it.
     fn run<R: Threads + Wait + Sync>(&mut self, rt: &R, alloc: Global)
-        ensures asked { self.new.asked ≡ self.old.asked }
-        ensures found { self.new.found ≡ self.old.found }
-        ensures answered { self.new.answered ≡ self.old.answered }
-        ensures order { self.new.order ≡ self.old.order }
+        ensures logs { KeepsLogs self.old self.new }
         ensures counted { self.old.refused ≤ self.new.refused }
         ensures size { size_of self.new.nodes ≡ size_of self.old.nodes }
         ensures ran { RunsAll self.old.nodes self.new.nodes }
@@ -156,10 +147,7 @@ impl Ensemble {
 
     /// What the executor of this number sent when it ran its job is under way.
     fn collect(&mut self, alloc: Global, id: u8)
-        ensures asked { self.new.asked ≡ self.old.asked }
-        ensures found { self.new.found ≡ self.old.found }
-        ensures answered { self.new.answered ≡ self.old.answered }
-        ensures order { self.new.order ≡ self.old.order }
+        ensures logs { KeepsLogs self.old self.new }
         ensures counted { self.old.refused ≤ self.new.refused }
         ensures size { size_of self.new.nodes ≡ size_of self.old.nodes }
         ensures collected { HostMoves HostCollects id self.old.nodes self.new.nodes }
@@ -170,10 +158,7 @@ impl Ensemble {
 
     /// What each executor sent when it ran its job is under way.
     fn collect_all(&mut self, alloc: Global)
-        ensures asked { self.new.asked ≡ self.old.asked }
-        ensures found { self.new.found ≡ self.old.found }
-        ensures answered { self.new.answered ≡ self.old.answered }
-        ensures order { self.new.order ≡ self.old.order }
+        ensures logs { KeepsLogs self.old self.new }
         ensures counted { self.old.refused ≤ self.new.refused }
         ensures size { size_of self.new.nodes ≡ size_of self.old.nodes }
         ensures collected { CollectedBelow (2 * self.old.nodes.u + 1) self.old.nodes self.new.nodes }
@@ -186,10 +171,7 @@ impl Ensemble {
 
     /// Each executor that has a job runs it. How long that takes is counted.
     fn run_timed<R: Threads + Wait + Sync, C: Clock>(&mut self, rt: &R, clock: &C, alloc: Global)
-        ensures asked { self.new.asked ≡ self.old.asked }
-        ensures found { self.new.found ≡ self.old.found }
-        ensures answered { self.new.answered ≡ self.old.answered }
-        ensures order { self.new.order ≡ self.old.order }
+        ensures logs { KeepsLogs self.old self.new }
         ensures counted { self.old.refused ≤ self.new.refused }
         ensures size { size_of self.new.nodes ≡ size_of self.old.nodes }
         ensures ran { RunsAll self.old.nodes self.new.nodes }
@@ -207,10 +189,7 @@ impl Ensemble {
         clock: &C,
         alloc: Global,
     ) -> bool
-        ensures asked { self.new.asked ≡ self.old.asked }
-        ensures found { self.new.found ≡ self.old.found }
-        ensures answered { self.new.answered ≡ self.old.answered }
-        ensures order { self.new.order ≡ self.old.order }
+        ensures logs { KeepsLogs self.old self.new }
         ensures counted { self.old.refused ≤ self.new.refused }
         ensures size { size_of self.new.nodes ≡ size_of self.old.nodes }
         ensures waits { AllCollected self.old.nodes → AllCollected self.new.nodes }
@@ -228,10 +207,7 @@ impl Ensemble {
     /// The executor of this number is to cut a batch: whether that led to anything.
     fn cut_at(&mut self, alloc: Global, id: u8, moment: u32) -> bool
         requires { IsNow self.old.order moment }
-        ensures asked { self.new.asked ≡ self.old.asked }
-        ensures found { self.new.found ≡ self.old.found }
-        ensures answered { self.new.answered ≡ self.old.answered }
-        ensures order { self.new.order ≡ self.old.order }
+        ensures logs { KeepsLogs self.old self.new }
         ensures counted { self.old.refused ≤ self.new.refused }
         ensures size { size_of self.new.nodes ≡ size_of self.old.nodes }
         ensures waits { AllCollected self.old.nodes → AllCollected self.new.nodes }
@@ -245,10 +221,7 @@ impl Ensemble {
     /// whether that led to anything.
     fn cut(&mut self, alloc: Global, moment: u32) -> bool
         requires { IsNow self.old.order moment }
-        ensures asked { self.new.asked ≡ self.old.asked }
-        ensures found { self.new.found ≡ self.old.found }
-        ensures answered { self.new.answered ≡ self.old.answered }
-        ensures order { self.new.order ≡ self.old.order }
+        ensures logs { KeepsLogs self.old self.new }
         ensures counted { self.old.refused ≤ self.new.refused }
         ensures size { size_of self.new.nodes ≡ size_of self.old.nodes }
         ensures waits { AllCollected self.old.nodes → AllCollected self.new.nodes }
@@ -266,10 +239,7 @@ impl Ensemble {
 
     /// The verifier of this number forgets old decrees, if its log is long.
     fn trim_at(&mut self, alloc: Global, id: u8)
-        ensures asked { self.new.asked ≡ self.old.asked }
-        ensures found { self.new.found ≡ self.old.found }
-        ensures answered { self.new.answered ≡ self.old.answered }
-        ensures order { self.new.order ≡ self.old.order }
+        ensures logs { KeepsLogs self.old self.new }
         ensures counted { self.old.refused ≤ self.new.refused }
         ensures size { size_of self.new.nodes ≡ size_of self.old.nodes }
         ensures waits { AllCollected self.old.nodes → AllCollected self.new.nodes }
@@ -280,10 +250,7 @@ impl Ensemble {
 
     /// Each verifier whose log is long forgets old decrees. `work` does so too.
     pub fn trim(&mut self, alloc: Global)
-        ensures asked { self.new.asked ≡ self.old.asked }
-        ensures found { self.new.found ≡ self.old.found }
-        ensures answered { self.new.answered ≡ self.old.answered }
-        ensures order { self.new.order ≡ self.old.order }
+        ensures logs { KeepsLogs self.old self.new }
         ensures counted { self.old.refused ≤ self.new.refused }
         ensures size { size_of self.new.nodes ≡ size_of self.old.nodes }
         ensures waits { AllCollected self.old.nodes → AllCollected self.new.nodes }

@@ -22,10 +22,10 @@ use crate::data::{Data, begin_data, open_data};
 use crate::life::run;
 use clap::Error;
 use clap::error::ErrorKind;
+use command_line::{WordsFault, words_of};
 use daemon::{Settings, read_settings};
 use server::NoFolder;
 use std::process::ExitCode;
-use words::{WordsFault, words_of};
 
 /// Memory ran out before it served.
 pub const REFUSED: u8 = 1;

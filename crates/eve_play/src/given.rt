@@ -1,8 +1,8 @@
 //! The words behind the program's name.
 
 use clap::{Arg, ArgAction, Command};
+use command_line::WordsFault;
 use std::alloc::Global;
-use words::WordsFault;
 
 /// The one word FILE.
 pub fn file_of<'a>(alloc: Global, words: &'a [String]) -> Result<&'a str, WordsFault> {

@@ -12,9 +12,9 @@ mod given;
 use crate::dial::Dial;
 use crate::given::file_of;
 use app::{REFUSED, STREAM_FAILED, play_text};
+use command_line::{WordsFault, words_of};
 use std::process::ExitCode;
 use std::{fs, io};
-use words::{WordsFault, words_of};
 
 const USAGE: u8 = 2;
 

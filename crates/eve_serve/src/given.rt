@@ -3,8 +3,8 @@
 ghost use Rattle.std.specs.Prelude.{◌<◌};
 
 use clap::{Arg, ArgAction, Command};
+use command_line::WordsFault;
 use std::alloc::Global;
-use words::WordsFault;
 
 /// On which port it is to listen, and how many nodes of each kind may be lost.
 #[derive(Clone, Copy)]

@@ -8,12 +8,12 @@
 mod given;
 
 use crate::given::read_words;
+use command_line::{WordsFault, words_of};
 use server::{Incidents, ServeFault, Service, serve};
 use service_laws::{replicas_agree_and_keep, service_is_linearizable};
 use std::io;
 use std::net::{Ipv4Addr, SocketAddr, SocketAddrV4, TcpListener};
 use std::process::ExitCode;
-use words::{WordsFault, words_of};
 
 const REFUSED: u8 = 1;
 

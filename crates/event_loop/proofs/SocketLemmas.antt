@@ -11,8 +11,8 @@ use Rattle.std.proofs.lemmas.Grind.{flat_map-append}
 use Rattle.http_server.proofs.KnownLemmas.{Appends-then}
 use Rattle.std.specs.declared.io.Error.{Error}
 use Rattle.event_loop.specs.declared.input.Piece.{Piece}
-use Rattle.event_loop.specs.declared.message.Heard.{Heard}
-use Rattle.event_loop.specs.declared.message.TheConstants.{MOST_UNWRITTEN}
+use Rattle.loop_messages.specs.declared.message.Heard.{Heard}
+use Rattle.loop_messages.specs.declared.message.TheConstants.{MOST_UNWRITTEN}
 use Rattle.event_loop.specs.Input.{IsEmptied, IsEnd}
 use Rattle.event_loop.specs.Traffic.{Traffic, IsWritten, written, One, IsFailed, IsBlocked}
 use Rattle.event_loop.specs.Socket.{SocketView, SocketWrites, SocketReads, SocketVisits, MayBeRead, MayBeWritten, Tells, IsAbout, bytes_told_by, told_in, written_told_by}

@@ -4,8 +4,8 @@ use Rattle.std.specs.Prelude.{Option, Some, None, IsSome, Contains}
 use Rattle.std.proofs.lemmas.Bool.{cases_eq}
 use Rattle.slab.specs.Slab.{Slab, get, with_value, Updates}
 use Rattle.slab.proofs.SlabLemmas.{Updates-with_value, Contains-cons_cases}
-use Rattle.event_loop.specs.declared.message.Heard.{Heard}
-use Rattle.event_loop.specs.declared.message.Said.{Said}
+use Rattle.loop_messages.specs.declared.message.Heard.{Heard}
+use Rattle.loop_messages.specs.declared.message.Said.{Said}
 use Rattle.event_loop.specs.Traffic.{Traffic}
 use Rattle.event_loop.specs.Socket.{SocketView, SocketRests, SocketVisits, IsSocketOver, Tells, Leaves, new_socket}
 use Rattle.event_loop.specs.Sockets.{VisitsView, SocketsView, IsEntry, Lists, IsSameButListed, SocketHears, HearsListed, IsGiven, AreAllGiven, IsVisited, IsVisitOfListed, IsVisitOfFirst}

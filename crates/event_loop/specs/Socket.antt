@@ -1,9 +1,9 @@
 -- What contracts see of a socket, and what it tells the service.
 use Rattle.std.specs.Prelude.{◌≡◌, ◌≢◌, ◌⊎◌, ◌↔◌, ℕ, ◌+◌, ◌<◌, ◌≤◌, Bool, true, false, List, [], ◌∷◌, ◌++◌, length, flat_map, sum_by, All, Result, if◌then◌else◌}
 use Rattle.std.specs.declared.io.Error.{Error}
-use Rattle.event_loop.specs.declared.message.Heard.{Heard}
-use Rattle.event_loop.specs.declared.message.Heard.TheVariants.{Came, Bytes, Written, Left}
-use Rattle.event_loop.specs.declared.message.TheConstants.{MOST_UNWRITTEN}
+use Rattle.loop_messages.specs.declared.message.Heard.{Heard}
+use Rattle.loop_messages.specs.declared.message.Heard.TheVariants.{Came, Bytes, Written, Left}
+use Rattle.loop_messages.specs.declared.message.TheConstants.{MOST_UNWRITTEN}
 use Rattle.event_loop.specs.declared.input.Piece.{Piece}
 use Rattle.event_loop.specs.Input.{IsEmptied, IsEnd}
 use Rattle.event_loop.specs.Traffic.{Traffic, IsWritten, One, IsFailed, IsBlocked}

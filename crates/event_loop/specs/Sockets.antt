@@ -1,9 +1,9 @@
 -- The table of sockets: what is said reaches the socket that it is for, and what a visit tells is of the socket that is visited.
 use Rattle.std.specs.Prelude.{◌≡◌, ◌≢◌, ◌⊎◌, ◌+◌, ℕ, Bool, ◌<◌, true, false, List, [], ◌∷◌, ◌++◌, length, min, ◌^◌, ◌-◌, Option, Some, None, ◌↔◌, Contains}
 use Rattle.slab.specs.Slab.{Slab, get}
-use Rattle.event_loop.specs.declared.message.Heard.{Heard}
+use Rattle.loop_messages.specs.declared.message.Heard.{Heard}
 use Rattle.event_loop.specs.declared.leavers.Leaver.{Leaver}
-use Rattle.event_loop.specs.declared.message.Said.{Said}
+use Rattle.loop_messages.specs.declared.message.Said.{Said}
 use Rattle.event_loop.specs.declared.socket.Readiness.{Readiness}
 use Rattle.event_loop.specs.Idle.{IdleView, HasBeenIdle}
 use Rattle.event_loop.specs.Socket.{SocketView, Tells, Leaves, SocketRests, IsSocketOver, IsQuiet, SocketVisits}

@@ -6,7 +6,7 @@ ghost use Rattle.event_loop.specs.Traffic.{IsWritten};
 
 use crate::input::{Piece, read_once};
 use crate::output::Output;
-use http_server::Log;
+use ghost_log::GhostLog;
 use std::alloc::{AllocError, Global};
 use std::io;
 use std::io::{Read, Write};
@@ -19,9 +19,9 @@ pub struct Buffered<S: Read + Write> {
     output: Output,
     /// What each read gave, what came of each write, and what is written or waits. Only contracts read these: a log
     /// has no bytes.
-    reads: Log<(), Piece>,
-    writes: Log<(), io::Result<usize>>,
-    said: Log<(), Vec<u8>>,
+    reads: GhostLog<(), Piece>,
+    writes: GhostLog<(), io::Result<usize>>,
+    said: GhostLog<(), Vec<u8>>,
 }
 
 impl<S: Read + Write> Model for Buffered<S> {
@@ -42,9 +42,9 @@ impl<S: Read + Write> Buffered<S> {
         Buffered {
             stream,
             output: Output::new(alloc),
-            reads: Log::new(),
-            writes: Log::new(),
-            said: Log::new(),
+            reads: GhostLog::new(),
+            writes: GhostLog::new(),
+            said: GhostLog::new(),
         }
     }
 

@@ -3,17 +3,17 @@
 ghost use Rattle.std.specs.Prelude.{◌≡◌, ◌≤◌, ◌↔◌, ◌-◌, ◌+◌, ◌⊎◌, ◌++◌, ◌∷◌, [], ◌<◌, true, length, IsTrue};
 ghost use Rattle.slab.specs.Slab.{slab_len};
 ghost use Rattle.event_loop.specs.Sockets.{AreAllGiven, EndsIdle, IsVisitOfFirst};
-ghost use Rattle.event_loop.specs.declared.message.Heard.TheVariants.{Came};
+ghost use Rattle.loop_messages.specs.declared.message.Heard.TheVariants.{Came};
 
 use crate::counts::{Counts, Shared, plus};
 use crate::idle::Idle;
 use crate::leavers::{Leaver, Leavers};
 use crate::listeners::{Accepted, Listeners};
-use crate::message::{Heard, Said};
 use crate::refused::RefusedConnections;
 use crate::socket::{After, Readiness};
 use crate::sockets::Sockets;
 use crate::stream::{Listener, Stream};
+use loop_messages::{Heard, Said};
 use mio::event::Event;
 use mio::{Events, Poll, Token, Waker};
 use std::alloc::{AllocError, Global};
@@ -27,6 +27,13 @@ const WAKER: Token = Token(usize::MAX);
 
 /// So many events are taken in one wait, at most.
 const MOST_EVENTS: usize = 1024;
+
+/// So many may always be taken in one wait.
+const LEAST_EVENTS: usize = 16;
+
+/// One wait takes the events of one of so many parts of the sockets, so that the service works on what was read of one part
+/// while the next is read.
+const PARTS: usize = 4;
 
 /// So many connections of each listener are accepted before the sockets are visited.
 const MOST_ACCEPTS: usize = 64;
@@ -87,6 +94,8 @@ pub struct EventLoop {
     is_short: bool,
     /// The last wait gave as many events as it may, so there may be others.
     has_more_events: bool,
+    /// The next wait takes as many events as any may, so that connections on which nothing happens are found.
+    takes_all: bool,
 }
 
 impl Drop for EventLoop {
@@ -108,6 +117,7 @@ impl Drop for EventLoop {
             is_writing: _,
             is_short: _,
             has_more_events: _,
+            takes_all: _,
         } = self;
     }
 }
@@ -123,12 +133,31 @@ impl Drop for Ready {
     }
 }
 
+/// How many events one wait takes, if there are so many sockets.
+fn events_of(sockets: usize) -> usize
+    ensures least { 16 ≤ result }
+    ensures most { result ≤ 1024 }
+{
+    let part = (sockets / PARTS).min(MOST_EVENTS).max(LEAST_EVENTS);
+    part / LEAST_EVENTS * LEAST_EVENTS
+}
+
 impl Ready {
     /// Nothing is ready.
     pub fn new(alloc: Global) -> Result<Ready, AllocError> {
         Ok(Ready {
-            events: Events::with_capacity(alloc, MOST_EVENTS)?,
+            events: Events::with_capacity(alloc, LEAST_EVENTS)?,
         })
+    }
+
+    /// Makes room for the events of a part of so many sockets. If there is no memory it has as much as before.
+    fn fit(&mut self, alloc: Global, sockets: usize) {
+        let most = events_of(sockets);
+        if most != self.events.capacity() {
+            if let Ok(events) = Events::with_capacity(alloc, most) {
+                self.events = events;
+            }
+        }
     }
 }
 
@@ -159,6 +188,7 @@ impl EventLoop {
             is_writing: false,
             is_short: false,
             has_more_events: false,
+            takes_all: false,
         })
     }
 
@@ -170,8 +200,17 @@ impl EventLoop {
     /// Waits until a socket is ready, a connection comes, another thread wakes it or the time is up. The
     /// sockets that are ready are listed for a visit.
     pub fn wait(&mut self, ready: &mut Ready, limit: Option<Duration>) -> io::Result<()> {
+        let takes_all = mem::replace(&mut self.takes_all, false);
+        ready.fit(
+            self.alloc,
+            if takes_all {
+                usize::MAX
+            } else {
+                self.sockets.len()
+            },
+        );
         self.poll.poll(&mut ready.events, limit)?;
-        self.has_more_events = MOST_EVENTS <= ready.events.iter().count();
+        self.has_more_events = ready.events.capacity() <= ready.events.iter().count();
         for event in &ready.events {
             let token = event.token();
             if self.listeners.note(token) {
@@ -214,6 +253,7 @@ impl EventLoop {
     /// A tenth of a second has passed.
     pub fn tick(&mut self) {
         self.is_short = false;
+        self.takes_all = true;
         self.refused.tick(self.buffer.as_mut_slice());
         self.listeners.try_again();
     }

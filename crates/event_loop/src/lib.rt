@@ -10,9 +10,9 @@
 //! little happened and the service is idle, the event loop's own thread answers. A connection is read only when its last
 //! bytes are done with and all that was said to it is written, so one that never reads holds up nobody.
 //!
-//! It is built on `mio` (sockets that do not block), `link` (messages between the threads), `figures` (what is counted),
-//! `slab` and `http_server` (its `Log`, a history that takes no memory). The layer above implements `Serve` and calls
-//! `serve`.
+//! It is built on `mio` (sockets that do not block), `loop_messages` (what it and the service tell each other), `link`
+//! (a queue between their threads), `figures` (what is counted), `slab` and `ghost_log` (what passed, for contracts alone).
+//! The layer above implements `Serve` and calls `serve`.
 //!
 //! `Socket` and `Sockets` are generic in their stream, so their contracts say which bytes move. What is said of a
 //! socket is what its reads gave, in order, under its number (`Socket::visit`, `IsSocket`). What is written is a
@@ -44,7 +44,6 @@ mod visits;
 
 pub use counts::{Counts, Watch};
 pub use event_loop::Admission;
-pub use message::{Heard, MOST_UNWRITTEN, Said};
 pub use service::Serve;
 pub use serving::{Refused, read_out, serve};
 pub use stream::Listener;

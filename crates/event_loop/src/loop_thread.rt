@@ -4,7 +4,7 @@ ghost use Rattle.std.specs.Prelude.{ℕ, ◌≡◌, ◌⊎◌, ◌<◌, ◌+◌,
 ghost use Rattle.std.specs.declared.alloc.Global.{Global};
 ghost use Rattle.std.specs.declared.vec.Vec.{Vec};
 ghost use Rattle.link.specs.Lines.{IsPutIn};
-ghost use Rattle.event_loop.specs.declared.message.Heard as message;
+ghost use Rattle.loop_messages.specs.declared.message.Heard as message;
 ghost use Rattle.event_loop.specs.declared.message.ToService.TheVariants.{Heard};
 
 use crate::counts::Shared;

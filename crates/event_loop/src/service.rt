@@ -1,6 +1,6 @@
 //! What answers the connections.
 
-use crate::message::{Heard, Said};
+use loop_messages::{Heard, Said};
 use std::rt::Clock;
 use std::sync::Wait;
 use std::thread::Threads;

@@ -3,14 +3,14 @@
 ghost use Rattle.std.specs.Prelude.{◌≡◌, ◌++◌, ◌∷◌, ◌⊎◌, ◌+◌, [], true, false, ◌<◌, ◌≤◌, ◌↔◌, length, IfSome, IsSome, IsTrue, Ok, OnOk, OnErr};
 ghost use Rattle.event_loop.specs.Socket.{SocketWrites, SocketReads, Tells, Leaves, SocketVisits, HasToTell, IsSocketOver, MayBeWritten, MayBeRead, IsQuiet, SocketRests, new_socket, last_told};
 ghost use Rattle.event_loop.specs.Sockets.{SocketHears, Notes};
-ghost use Rattle.event_loop.specs.declared.message.Heard.TheVariants.{Bytes, Written, Left};
-ghost use Rattle.event_loop.specs.declared.message.TheConstants.{MOST_UNWRITTEN};
+ghost use Rattle.loop_messages.specs.declared.message.Heard.TheVariants.{Bytes, Written, Left};
+ghost use Rattle.loop_messages.specs.declared.message.TheConstants.{MOST_UNWRITTEN};
 ghost use Rattle.event_loop.specs.declared.socket.After;
 
 use crate::buffered::Buffered;
 use crate::input::Piece;
-use crate::message::{Heard, MOST_UNWRITTEN, Said};
-use http_server::Log;
+use ghost_log::GhostLog;
+use loop_messages::{Heard, MOST_UNWRITTEN, Said};
 use std::alloc::{AllocError, Global};
 use std::io::{ErrorKind, Read, Write};
 use std::marker::Model;
@@ -70,7 +70,7 @@ pub struct Socket<S: Read + Write> {
     traffic: Buffered<S>,
     number: u64,
     /// The bytes that were reported to the service. Only contracts read them.
-    told: Log<(), Vec<u8>>,
+    told: GhostLog<(), Vec<u8>>,
     /// The bytes said and not reported as written.
     untold: usize,
     /// What was read and written since this was last asked.
@@ -113,7 +113,7 @@ impl<S: Read + Write> Socket<S> {
         Socket {
             traffic: Buffered::new(alloc, stream),
             number,
-            told: Log::new(),
+            told: GhostLog::new(),
             untold: 0,
             moved: Moved::default(),
             read_at: 0,

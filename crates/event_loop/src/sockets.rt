@@ -5,9 +5,9 @@ ghost use Rattle.slab.specs.Slab.{get, slab_len, Updates};
 ghost use Rattle.event_loop.specs.Socket.{IsQuiet, SocketView, new_socket};
 ghost use Rattle.event_loop.specs.Sockets.{IsGiven, AreAllGiven, NotesListed, IsSameButListed, IsVisitOfFirst};
 
-use crate::message::{Heard, Said};
 use crate::socket::{After, Moved, Readiness, Socket};
 use crate::visits::Visits;
+use loop_messages::{Heard, Said};
 use slab::Slab;
 use std::alloc::{AllocError, Global};
 use std::io::{Read, Write};

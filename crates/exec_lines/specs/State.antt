@@ -20,6 +20,7 @@ use Rattle.rollback.specs.declared.chain.TheConstants.{MOST_MEMBERS}
 use Rattle.rollback.specs.Chain.{ChainView, chain_tip, is_over}
 use Rattle.exec_lines.specs.declared.body.Body.{Body}
 use Rattle.exec_lines.specs.declared.body.Body.TheVariants as body
+use Rattle.exec_lines.specs.declared.outcome.Outcome.{Outcome}
 
 -- The first three are saved, so they stand for the record too. The rest is lost at a crash.
 pub record ExecutorState : Type 0 where
@@ -37,6 +38,10 @@ pub record ExecutorOutcome : Type 0 where
   pub state : ExecutorState
   pub saves : Bool
   pub letters : List (Letter Body)
+
+-- its state after a step, and what the step leaves to be done
+abbrev pub executor_left : ExecutorState → Outcome → ExecutorOutcome
+executor_left s outcome = record { state = s; saves = outcome.saves; letters = outcome.letters.items }
 
 -- it has not yet the state that stands
 abbrev pub is_behind : ExecutorState → Bool

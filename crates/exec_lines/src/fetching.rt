@@ -20,6 +20,7 @@ use std::mem;
 use transfer::{Need, Parcel, answer, take};
 
 impl State {
+    ghost use Rattle.exec_lines.specs.State.{executor_left};
     /// Whether its committed state is a later one than that of the need.
     fn has_more(&self, need: &Need) -> bool
         ensures { result ≡ has_more self.now need.now }
@@ -36,7 +37,7 @@ impl State {
         need: &Need,
     ) -> Result<Outcome, AllocError>
         requires { IsTrue (has_more self.now need.now) }
-        ensures { IfOk result (λ outcome. record { state = self.now; saves = outcome.saves; letters = outcome.letters.items } ≡ one_letter id self.now (Executor from) (body.Parcel (answer_of self.now.chain.have need.now))) }
+        ensures { IfOk result (λ outcome. executor_left self.now outcome ≡ one_letter id self.now (Executor from) (body.Parcel (answer_of self.now.chain.have need.now))) }
     {
         let parcel = answer(alloc, self.chain.committed(), need)?;
         let letters = one(alloc, id, Node::Executor(from), Body::Parcel(parcel))?;
@@ -51,7 +52,7 @@ impl State {
         from: u8,
         need: &Need,
     ) -> Result<Outcome, AllocError>
-        ensures done { IfOk result (λ outcome. record { state = self.now; saves = outcome.saves; letters = outcome.letters.items } ≡ need_line id self.now from need.now) }
+        ensures done { IfOk result (λ outcome. executor_left self.now outcome ≡ need_line id self.now from need.now) }
         ensures fits_none { IsTrue (not (has_more self.now need.now)) → IsOk result }
     {
         if !self.has_more(need) {
@@ -79,7 +80,7 @@ impl State {
         committed: Committed,
     ) -> Result<Outcome, AllocError>
         requires { IsTrue (behind self.old) }
-        ensures { IfOk result (λ outcome. record { state = self.new; saves = outcome.saves; letters = outcome.letters.items } ≡ came self.old (Some committed.state)) }
+        ensures { IfOk result (λ outcome. executor_left self.new outcome ≡ came self.old (Some committed.state)) }
     {
         let (chain, _) = Chain::new(alloc, committed)?;
         mem::replace(&mut self.chain, chain).end();
@@ -88,7 +89,7 @@ impl State {
 
     /// The state that stands has come, if it is behind and the parcel makes just that one.
     pub fn on_parcel(&mut self, alloc: Global, parcel: Parcel) -> Result<Outcome, AllocError>
-        ensures done { IfOk result (λ outcome. record { state = self.new; saves = outcome.saves; letters = outcome.letters.items } ≡ parcel_line self.old parcel) }
+        ensures done { IfOk result (λ outcome. executor_left self.new outcome ≡ parcel_line self.old parcel) }
         ensures fits_none { IsTrue (not (behind self.old)) → IsOk result }
     {
         if !self.is_behind() {

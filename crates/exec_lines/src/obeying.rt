@@ -19,6 +19,7 @@ use std::alloc::{AllocError, Global};
 use transfer::Need;
 
 impl State {
+    ghost use Rattle.exec_lines.specs.State.{executor_left};
     /// Commits the first member of the chain, by the decree of its number and token. Its replies go to
     /// their clients.
     fn commit_first(
@@ -31,7 +32,7 @@ impl State {
         requires standing { self.old.standing.n < 2 ^ 64 - 1 }
         requires epoch { self.old.standing.epoch < 2 ^ 64 - 1 }
         requires first { IsTrue (commits_first decree.now self.old.chain.members) }
-        ensures { IfOk result (λ outcome. record { state = self.new; saves = outcome.saves; letters = outcome.letters.items } ≡ commit_line id self.old decree.now) }
+        ensures { IfOk result (λ outcome. executor_left self.new outcome ≡ commit_line id self.old decree.now) }
     {
         self.known += 1;
         self.standing = self.standing.after(decree);
@@ -108,7 +109,7 @@ impl State {
         requires known { self.old.known < 2 ^ 64 - 1 }
         requires standing { self.old.standing.n < 2 ^ 64 - 1 }
         requires epoch { self.old.standing.epoch < 2 ^ 64 - 1 }
-        ensures { IfOk result (λ outcome. record { state = self.new; saves = outcome.saves; letters = outcome.letters.items } ≡ roll_back_line u id self.old decree.now) }
+        ensures { IfOk result (λ outcome. executor_left self.new outcome ≡ roll_back_line u id self.old decree.now) }
     {
         self.turn_back(decree);
         let mut letters = Vec::new(alloc);
@@ -120,7 +121,7 @@ impl State {
     fn obey(&mut self, alloc: Global, u: u8, id: u8, decree: &Decree) -> Result<Outcome, Fault>
         requires few { u < 4 }
         requires next { IsTrue (may_follow self.old.standing decree.now) }
-        ensures done { IfOk result (λ outcome. record { state = self.new; saves = outcome.saves; letters = outcome.letters.items } ≡ obey_line u id self.old decree.now) }
+        ensures done { IfOk result (λ outcome. executor_left self.new outcome ≡ obey_line u id self.old decree.now) }
         ensures err { IfErr result (λ fault. (fault ≡ Fault.NoMemory) ⊎ ((fault ≡ Fault.Stopped) × IsCounted self.old)) }
     {
         if self.known == u64::MAX
@@ -155,7 +156,7 @@ impl State {
         decree: Decree,
     ) -> Result<Outcome, Fault>
         requires { u < 4 }
-        ensures done { IfOk result (λ outcome. record { state = self.new; saves = outcome.saves; letters = outcome.letters.items } ≡ decree_line u id self.old from place decree) }
+        ensures done { IfOk result (λ outcome. executor_left self.new outcome ≡ decree_line u id self.old from place decree) }
         ensures fits_none { IsTrue (not (is_heeded self.old place decree)) → IsOk result }
         ensures err { IfErr result (λ fault. (fault ≡ Fault.NoMemory) ⊎ ((fault ≡ Fault.Stopped) × IsCounted self.old)) }
     {

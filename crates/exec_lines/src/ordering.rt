@@ -14,9 +14,10 @@ use sessions::Request;
 use std::alloc::{AllocError, Global};
 
 impl State {
+    ghost use Rattle.exec_lines.specs.State.{executor_left};
     /// The request waits for a batch.
     fn wait(&mut self, alloc: Global, request: Request) -> Result<Outcome, AllocError>
-        ensures { IfOk result (λ outcome. record { state = self.new; saves = outcome.saves; letters = outcome.letters.items } ≡ waits self.old request) }
+        ensures { IfOk result (λ outcome. executor_left self.new outcome ≡ waits self.old request) }
     {
         self.gather.add(request)?;
         Ok(Outcome::nothing(alloc))
@@ -30,7 +31,7 @@ impl State {
         id: u8,
         request: Request,
     ) -> Result<Outcome, AllocError>
-        ensures { IfOk result (λ outcome. record { state = self.new; saves = outcome.saves; letters = outcome.letters.items } ≡ want_line id self.old request) }
+        ensures { IfOk result (λ outcome. executor_left self.new outcome ≡ want_line id self.old request) }
     {
         match self.chain.committed().sessions().kept(request.client) {
             Some((number, reply)) if number == request.number => {
@@ -79,7 +80,7 @@ impl State {
         moment: u32,
     ) -> Result<Outcome, AllocError>
         requires { u < 4 }
-        ensures done { IfOk result (λ outcome. record { state = self.new; saves = outcome.saves; letters = outcome.letters.items } ≡ cut_line u id self.old moment) }
+        ensures done { IfOk result (λ outcome. executor_left self.new outcome ≡ cut_line u id self.old moment) }
         ensures fits_none { IsTrue (not (may u id self.old)) → IsOk result }
     {
         if !self.may_cut(u, id) {
@@ -110,7 +111,7 @@ impl State {
         batch: Batch,
     ) -> Result<Outcome, AllocError>
         requires { u < 4 }
-        ensures done { IfOk result (λ outcome. record { state = self.new; saves = outcome.saves; letters = outcome.letters.items } ≡ order_line u id self.old batch) }
+        ensures done { IfOk result (λ outcome. executor_left self.new outcome ≡ order_line u id self.old batch) }
         ensures fits_none { IsTrue (not (may_obey_order self.old batch)) → IsOk result }
     {
         if !self.may_obey(&batch) {

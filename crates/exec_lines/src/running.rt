@@ -28,6 +28,7 @@ pub struct Job<'a> {
 }
 
 impl State {
+    ghost use Rattle.exec_lines.specs.State.{executor_left};
     /// The work, if no step of it was made. It takes no memory.
     pub fn job(&self) -> Option<Job>
         ensures { MatchOption result (job_of self.now.work ≡ None)
@@ -69,7 +70,7 @@ impl State {
         requires over { IsTrue (is_tip self.old.chain work.base) }
         requires untouched { IsUntouched work.progress }
         ensures { IfOk result (λ outcome. RunsJob u id self.old (Some (record { base = work.base; batch = work.batch; ordered = work.ordered }))
-            (record { state = self.new; saves = outcome.saves; letters = outcome.letters.items })) }
+            (executor_left self.new outcome)) }
     {
         let tentative = work.run_on_threads(rt, alloc, workers, gate)?;
         let outcome = self.complete(u, id, Vec::new(alloc), tentative)?;
@@ -89,7 +90,7 @@ impl State {
         gate: &G,
     ) -> Result<Outcome, AllocError>
         requires { u < 4 }
-        ensures ran { IfOk result (λ outcome. RunsJob u id self.old (job_of self.old.work) (record { state = self.new; saves = outcome.saves; letters = outcome.letters.items })) }
+        ensures ran { IfOk result (λ outcome. RunsJob u id self.old (job_of self.old.work) (executor_left self.new outcome)) }
         ensures none { job_of self.old.work ≡ None → IsOk result }
     {
         match mem::replace(&mut self.work, None) {

@@ -12,6 +12,7 @@ use executor::Answered;
 use std::alloc::{AllocError, Global};
 
 impl State {
+    ghost use Rattle.exec_lines.specs.State.{executor_left};
     /// Whether this could stand there, and it has not obeyed as much.
     fn is_told(&self, place: u64, standing: &Standing) -> bool
         ensures { result ≡ told self.now place standing.now }
@@ -54,7 +55,7 @@ impl State {
     ) -> Result<Outcome, AllocError>
         requires told { IsTrue (told self.old place standing) }
         requires has { IsTrue (is_some (chain_from standing self.old.chain.have self.old.chain.members)) }
-        ensures { IfOk result (λ outcome. (u : ℕ) → record { state = self.new; saves = outcome.saves; letters = outcome.letters.items } ≡ stood u id self.old place standing (chain_from standing self.old.chain.have self.old.chain.members)) }
+        ensures { IfOk result (λ outcome. (u : ℕ) → executor_left self.new outcome ≡ stood u id self.old place standing (chain_from standing self.old.chain.have self.old.chain.members)) }
     {
         let mut replies = Vec::new(alloc);
         self.stand(place, standing, &mut replies)?;
@@ -73,7 +74,7 @@ impl State {
     ) -> Result<Outcome, AllocError>
         requires few { u < 4 }
         requires told { IsTrue (told self.old place standing) }
-        ensures { IfOk result (λ outcome. record { state = self.new; saves = outcome.saves; letters = outcome.letters.items } ≡ stood u id self.old place standing None) }
+        ensures { IfOk result (λ outcome. executor_left self.new outcome ≡ stood u id self.old place standing None) }
     {
         self.begin_again(place, standing);
         let mut letters = Vec::new(alloc);
@@ -92,7 +93,7 @@ impl State {
         standing: Standing,
     ) -> Result<Outcome, AllocError>
         requires { u < 4 }
-        ensures done { IfOk result (λ outcome. record { state = self.new; saves = outcome.saves; letters = outcome.letters.items } ≡ stands_line u id self.old place standing) }
+        ensures done { IfOk result (λ outcome. executor_left self.new outcome ≡ stands_line u id self.old place standing) }
         ensures fits_none { IsTrue (not (told self.old place standing)) → IsOk result }
     {
         if !self.is_told(place, &standing) {

@@ -12,6 +12,7 @@ use proto::Fault;
 use std::alloc::{AllocError, Global};
 
 impl State {
+    ghost use Rattle.exec_lines.specs.State.{executor_left};
     /// Does what the input asks for. An input that fits no line changes nothing and is Ok; it takes no
     /// memory.
     ///
@@ -21,7 +22,7 @@ impl State {
     /// keeps its record stops.
     pub fn step(&mut self, alloc: Global, u: u8, id: u8, input: Input) -> Result<Outcome, Fault>
         requires { u < 4 }
-        ensures done { IfOk result (λ outcome. record { state = self.new; saves = outcome.saves; letters = outcome.letters.items } ≡ executor_step u id self.old input) }
+        ensures done { IfOk result (λ outcome. executor_left self.new outcome ≡ executor_step u id self.old input) }
         ensures fits_none { IsTrue (not (fits_a_line u id self.old input)) → IsTrue (not (is_refused self.old input)) → IsOk result }
         ensures refused { IsTrue (is_refused self.old input) → (result ≡ Err Fault.Unfit) × (self.new ≡ self.old) }
         ensures err { IsTrue (not (is_refused self.old input)) → IfErr result (λ fault. (fault ≡ Fault.NoMemory) ⊎ ((fault ≡ Fault.Stopped) × IsCounted self.old)) }
@@ -40,7 +41,7 @@ impl State {
     }
 
     fn from_client(&mut self, alloc: Global, id: u8, body: Body) -> Result<Outcome, AllocError>
-        ensures done { IfOk result (λ outcome. record { state = self.new; saves = outcome.saves; letters = outcome.letters.items } ≡ client_line id self.old body) }
+        ensures done { IfOk result (λ outcome. executor_left self.new outcome ≡ client_line id self.old body) }
         ensures fits_none { IsTrue (not (fits_from_client body)) → IsOk result }
     {
         match body {
@@ -58,7 +59,7 @@ impl State {
         body: Body,
     ) -> Result<Outcome, AllocError>
         requires { u < 4 }
-        ensures done { IfOk result (λ outcome. record { state = self.new; saves = outcome.saves; letters = outcome.letters.items } ≡ executor_line u id self.old from body) }
+        ensures done { IfOk result (λ outcome. executor_left self.new outcome ≡ executor_line u id self.old from body) }
         ensures fits_none { IsTrue (not (fits_from_executor self.old body)) → IsOk result }
     {
         match body {
@@ -78,7 +79,7 @@ impl State {
         body: Body,
     ) -> Result<Outcome, Fault>
         requires { u < 4 }
-        ensures done { IfOk result (λ outcome. record { state = self.new; saves = outcome.saves; letters = outcome.letters.items } ≡ verifier_line u id self.old from body) }
+        ensures done { IfOk result (λ outcome. executor_left self.new outcome ≡ verifier_line u id self.old from body) }
         ensures fits_none { IsTrue (not (fits_from_verifier self.old body)) → IsOk result }
         ensures err { IfErr result (λ fault. (fault ≡ Fault.NoMemory) ⊎ ((fault ≡ Fault.Stopped) × IsCounted self.old)) }
     {
@@ -97,7 +98,7 @@ impl State {
         ballot: Ballot,
     ) -> Result<Outcome, Fault>
         requires { u < 4 }
-        ensures done { IfOk result (λ outcome. record { state = self.new; saves = outcome.saves; letters = outcome.letters.items } ≡ ballot_line u id self.old from ballot) }
+        ensures done { IfOk result (λ outcome. executor_left self.new outcome ≡ ballot_line u id self.old from ballot) }
         ensures fits_none { IsTrue (not (fits_ballot self.old ballot)) → IsOk result }
         ensures err { IfErr result (λ fault. (fault ≡ Fault.NoMemory) ⊎ ((fault ≡ Fault.Stopped) × IsCounted self.old)) }
     {

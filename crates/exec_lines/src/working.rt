@@ -48,6 +48,7 @@ fn is_made_of(tentative: &Tentative, work: &Work) -> bool
 }
 
 impl State {
+    ghost use Rattle.exec_lines.specs.State.{executor_left};
     /// The tentative state joins the chain, which has room for it, and the work is over.
     fn push(&mut self, tentative: Tentative)
         requires room { length self.old.chain.members < MOST_MEMBERS }
@@ -73,7 +74,7 @@ impl State {
         requires few { u < 4 }
         requires room { length self.old.chain.members < MOST_MEMBERS }
         requires over { IsTrue (is_over (chain_tip self.old.chain) tentative) }
-        ensures { IfOk result (λ outcome. record { state = self.new; saves = outcome.saves; letters = outcome.letters.items } ≡ completed u id self.old first.items tentative) }
+        ensures { IfOk result (λ outcome. executor_left self.new outcome ≡ completed u id self.old first.items tentative) }
     {
         let mut letters = first;
         if tell(u, id, &tentative, &mut letters).is_err() {
@@ -96,7 +97,7 @@ impl State {
         requires room { length self.old.chain.members < MOST_MEMBERS }
         requires current { IsTrue (not (behind self.old)) }
         requires over { IsOverTip self.old.chain ended }
-        ensures { IfOk result (λ outcome. record { state = self.new; saves = outcome.saves; letters = outcome.letters.items } ≡ went_on u id self.old first.items ended) }
+        ensures { IfOk result (λ outcome. executor_left self.new outcome ≡ went_on u id self.old first.items ended) }
     {
         match ended {
             Ended::On(work) => {
@@ -130,7 +131,7 @@ impl State {
         requires room { length self.old.chain.members < MOST_MEMBERS }
         requires current { IsTrue (not (behind self.old)) }
         requires next { batch.n ≡ next_batch_number self.old }
-        ensures { IfOk result (λ outcome. record { state = self.new; saves = outcome.saves; letters = outcome.letters.items } ≡ begin_line u id self.old first.items batch) }
+        ensures { IfOk result (λ outcome. executor_left self.new outcome ≡ begin_line u id self.old first.items batch) }
     {
         let ended = self.begun(alloc, batch)?;
         self.go_on(u, id, first, ended)
@@ -138,7 +139,7 @@ impl State {
 
     /// The next step of the request at the place, if there is work that has one.
     pub fn on_step(&mut self, alloc: Global, place: u32) -> Result<Outcome, AllocError>
-        ensures done { IfOk result (λ outcome. record { state = self.new; saves = outcome.saves; letters = outcome.letters.items } ≡ step_line self.old place) }
+        ensures done { IfOk result (λ outcome. executor_left self.new outcome ≡ step_line self.old place) }
         ensures fits_none { IsTrue (not (is_some (work_after self.old.work place))) → IsOk result }
     {
         if let Some(work) = &mut self.work {
@@ -164,7 +165,7 @@ impl State {
         requires room { length self.old.chain.members < MOST_MEMBERS }
         requires current { IsTrue (not (behind self.old)) }
         requires over { IsTrue (is_tip self.old.chain work.base) }
-        ensures { IfOk result (λ outcome. record { state = self.new; saves = outcome.saves; letters = outcome.letters.items } ≡ went_on u id self.old [] (finish_of work)) }
+        ensures { IfOk result (λ outcome. executor_left self.new outcome ≡ went_on u id self.old [] (finish_of work)) }
     {
         let ended = work.finish(alloc)?;
         self.go_on(u, id, Vec::new(alloc), ended)
@@ -173,7 +174,7 @@ impl State {
     /// The work is at the end of a group.
     pub fn on_finish(&mut self, alloc: Global, u: u8, id: u8) -> Result<Outcome, AllocError>
         requires { u < 4 }
-        ensures done { IfOk result (λ outcome. record { state = self.new; saves = outcome.saves; letters = outcome.letters.items } ≡ finish_line u id self.old) }
+        ensures done { IfOk result (λ outcome. executor_left self.new outcome ≡ finish_line u id self.old) }
         ensures fits_none { IsTrue (not (at_end self.old.work)) → IsOk result }
     {
         if !self.is_at_end() {
@@ -208,7 +209,7 @@ impl State {
         tentative: Tentative,
     ) -> Result<Outcome, Fault>
         requires { u < 4 }
-        ensures done { IfOk result (λ outcome. record { state = self.new; saves = outcome.saves; letters = outcome.letters.items } ≡ adopt_line u id self.old tentative) }
+        ensures done { IfOk result (λ outcome. executor_left self.new outcome ≡ adopt_line u id self.old tentative) }
         ensures refused { IsTrue (not (may self.old tentative)) → (result ≡ Err Fault.Unfit) × (self.new ≡ self.old) }
         ensures adopted { IsTrue (may self.old tentative) → IfErr result (λ fault. fault ≡ Fault.NoMemory) }
     {

@@ -2,6 +2,7 @@ ghost use Rattle.std.specs.Prelude.{◌≡◌, ◌*◌, ◌-◌, ◌^◌, ◌<�
 ghost use Rattle.exec_lines.specs.Record.{executor_text};
 ghost use Rattle.exec_lines.specs.Lines.{resumed};
 ghost use Rattle.exec_node.specs.Executor.{StoredExecutor};
+ghost use Rattle.keeper.specs.Kept.{TriesToSave};
 
 use crate::record::read_back;
 use decrees::Letter;
@@ -39,17 +40,10 @@ fn save<K: Keeper<ExecutorRecord>>(
     state: &State,
     keeper: &mut K,
 ) -> Result<(), Fault>
-    ensures saved { OnOk result (K.saved keeper.new ≡ Some (executor_text u id state.now)) }
-    ensures none_failed { OnOk result (K.failed keeper.new ≡ K.failed keeper.old) }
-    ensures same_word { OnOk result (K.told keeper.new ≡ K.told keeper.old) }
-    ensures as_told { IsTrue (K.told keeper.old) → IsErr result }
-    ensures old { OnErr result (K.saved keeper.new ≡ K.saved keeper.old) }
+    ensures tries { TriesToSave K.saved K.failed K.told (executor_text u id state.now) keeper.old keeper.new result }
     ensures no_memory { result ≡ Err Fault.NoMemory → K.failed keeper.new ≡ K.failed keeper.old }
     ensures stopped { result ≡ Err Fault.Stopped → (K.failed keeper.old < K.failed keeper.new) ⊎ (K.failed keeper.old ≡ 2 ^ 64 - 1) }
     ensures only { IfErr result (λ fault. (fault ≡ Fault.NoMemory) ⊎ (fault ≡ Fault.Stopped)) }
-    ensures counted { K.failed keeper.old ≤ K.failed keeper.new }
-    ensures untried { K.failed keeper.new ≡ K.failed keeper.old → K.told keeper.new ≡ K.told keeper.old }
-    ensures spent { K.failed keeper.old < K.failed keeper.new → K.told keeper.new ≡ false }
 {
     let record = state.record(alloc, u, id)?;
     save_record(record, keeper)
@@ -66,17 +60,10 @@ fn renewed<K: Keeper<ExecutorRecord>>(
 ) -> Result<Vec<Letter<Body>>, Fault>
     requires { u < 4 }
     ensures letters { IfOk result (λ letters. letters.items ≡ (resumed u id state.now).letters) }
-    ensures saved { OnOk result (K.saved keeper.new ≡ Some (executor_text u id state.now)) }
-    ensures none_failed { OnOk result (K.failed keeper.new ≡ K.failed keeper.old) }
-    ensures same_word { OnOk result (K.told keeper.new ≡ K.told keeper.old) }
-    ensures as_told { IsTrue (K.told keeper.old) → IsErr result }
-    ensures old { OnErr result (K.saved keeper.new ≡ K.saved keeper.old) }
+    ensures tries { TriesToSave K.saved K.failed K.told (executor_text u id state.now) keeper.old keeper.new result }
     ensures no_memory { result ≡ Err Fault.NoMemory → K.failed keeper.new ≡ K.failed keeper.old }
     ensures stopped { result ≡ Err Fault.Stopped → ((K.failed keeper.old < K.failed keeper.new) ⊎ (K.failed keeper.old ≡ 2 ^ 64 - 1)) ⊎ (state.now.known ≡ 2 ^ 64 - 1) }
     ensures only { IfErr result (λ fault. (fault ≡ Fault.NoMemory) ⊎ (fault ≡ Fault.Stopped)) }
-    ensures counted { K.failed keeper.old ≤ K.failed keeper.new }
-    ensures untried { K.failed keeper.new ≡ K.failed keeper.old → K.told keeper.new ≡ K.told keeper.old }
-    ensures spent { K.failed keeper.old < K.failed keeper.new → K.told keeper.new ≡ false }
 {
     let letters = state.resumed(alloc, u, id)?;
     save(alloc, u, id, state, keeper)?;
@@ -115,6 +102,8 @@ impl<K: Keeper<ExecutorRecord>> ExecNode<K> {
     ghost use Rattle.exec_node.specs.Executor.{StoredExecutor, OpensExecutor, IsNoExecutorRecord, IsCountedRecord, IsToBeSaved, executor_handled, executor_outcome, executor_record_after, IsExecutorAtLimit, RanJob};
     ghost use Rattle.exec_lines.specs.Job.{job_of};
     ghost use Rattle.exec_node.specs.Lent.{LendsExecutorKeeper};
+    ghost use Rattle.keeper.specs.Kept.{CountsFailures};
+    ghost use Rattle.exec_lines.specs.State.{executor_left};
 
     /// Opens the executor `id` of `2u + 1`. If the keeper has no record it is new, and its first
     /// record is saved. Else it goes on from its record: it tells the tokens of its tentative states, and
@@ -141,9 +130,7 @@ impl<K: Keeper<ExecutorRecord>> ExecNode<K> {
         ensures none_failed { IfErr result (λ refused. refused.0 ≡ Fault.NoMemory → K.failed refused.1 ≡ K.failed keeper) }
         ensures untouched { (IsToBeSaved u id (K.saved keeper) → ⊥) → IfErr result (λ refused. refused.1 ≡ keeper) }
         ensures saved { IfErr result (λ refused. K.saved refused.1 ≡ K.saved keeper) }
-        ensures counted { IfErr result (λ refused. K.failed keeper ≤ K.failed refused.1) }
-        ensures untried { IfErr result (λ refused. K.failed refused.1 ≡ K.failed keeper → K.told refused.1 ≡ K.told keeper) }
-        ensures spent { IfErr result (λ refused. K.failed keeper < K.failed refused.1 → K.told refused.1 ≡ false) }
+        ensures failures { IfErr result (λ refused. CountsFailures (K.failed keeper) (K.told keeper) (K.failed refused.1) (K.told refused.1)) }
         ensures only { IfErr result (λ refused. (refused.0 ≡ Fault.NoMemory) ⊎ (refused.0 ≡ Fault.BadRecord) ⊎ (refused.0 ≡ Fault.Stopped)) }
     {
         match stored(alloc, u, id, &keeper) {
@@ -168,9 +155,7 @@ impl<K: Keeper<ExecutorRecord>> ExecNode<K> {
         ensures stopped { IfErr result (λ refused. refused.0 ≡ Fault.Stopped → (K.failed keeper < K.failed refused.1) ⊎ (K.failed keeper ≡ 2 ^ 64 - 1)) }
         ensures none_failed { IfErr result (λ refused. refused.0 ≡ Fault.NoMemory → K.failed refused.1 ≡ K.failed keeper) }
         ensures saved { IfErr result (λ refused. K.saved refused.1 ≡ K.saved keeper) }
-        ensures counted { IfErr result (λ refused. K.failed keeper ≤ K.failed refused.1) }
-        ensures untried { IfErr result (λ refused. K.failed refused.1 ≡ K.failed keeper → K.told refused.1 ≡ K.told keeper) }
-        ensures spent { IfErr result (λ refused. K.failed keeper < K.failed refused.1 → K.told refused.1 ≡ false) }
+        ensures failures { IfErr result (λ refused. CountsFailures (K.failed keeper) (K.told keeper) (K.failed refused.1) (K.told refused.1)) }
     {
         match State::first(alloc) {
             Err(_) => Err((Fault::NoMemory, keeper)),
@@ -210,9 +195,7 @@ impl<K: Keeper<ExecutorRecord>> ExecNode<K> {
         ensures stopped { IfErr result (λ refused. refused.0 ≡ Fault.Stopped → ((K.failed keeper < K.failed refused.1) ⊎ (K.failed keeper ≡ 2 ^ 64 - 1)) ⊎ IsCountedRecord u id (K.saved keeper)) }
         ensures none_failed { IfErr result (λ refused. refused.0 ≡ Fault.NoMemory → K.failed refused.1 ≡ K.failed keeper) }
         ensures saved { IfErr result (λ refused. K.saved refused.1 ≡ K.saved keeper) }
-        ensures counted { IfErr result (λ refused. K.failed keeper ≤ K.failed refused.1) }
-        ensures untried { IfErr result (λ refused. K.failed refused.1 ≡ K.failed keeper → K.told refused.1 ≡ K.told keeper) }
-        ensures spent { IfErr result (λ refused. K.failed keeper < K.failed refused.1 → K.told refused.1 ≡ false) }
+        ensures failures { IfErr result (λ refused. CountsFailures (K.failed keeper) (K.told keeper) (K.failed refused.1) (K.told refused.1)) }
     {
         match renewed(alloc, u, id, &state, &mut keeper) {
             Err(fault) => {
@@ -267,15 +250,13 @@ impl<K: Keeper<ExecutorRecord>> ExecNode<K> {
 
     /// Saves the record if the outcome asks for it, and gives the outcome's letters.
     fn keep(&mut self, alloc: Global, outcome: Outcome) -> Result<Vec<Letter<Body>>, Fault>
-        ensures done { OnOk result (self.new ≡ record self.old { saved = executor_record_after self.old (record { state = self.old.state; saves = outcome.saves; letters = outcome.letters.items }) }) }
+        ensures done { OnOk result (self.new ≡ record self.old { saved = executor_record_after self.old (executor_left self.old.state outcome) }) }
         ensures letters { IfOk result (λ letters. letters ≡ outcome.letters) }
         ensures unsaved { outcome.saves ≡ false → IsOk result }
         ensures as_told { IsTrue self.old.told → IsTrue outcome.saves → IsErr result }
         ensures same { OnErr result ((self.new.id ≡ self.old.id) × (self.new.u ≡ self.old.u)) }
         ensures old_record { OnErr result (self.new.saved ≡ self.old.saved) }
-        ensures counted { self.old.failures ≤ self.new.failures }
-        ensures untried { self.new.failures ≡ self.old.failures → self.new.told ≡ self.old.told }
-        ensures spent { self.old.failures < self.new.failures → self.new.told ≡ false }
+        ensures failures { CountsFailures self.old.failures self.old.told self.new.failures self.new.told }
         ensures no_memory { result ≡ Err Fault.NoMemory → self.new.failures ≡ self.old.failures }
         ensures stopped { result ≡ Err Fault.Stopped → (self.old.failures < self.new.failures) ⊎ (self.old.failures ≡ 2 ^ 64 - 1) }
         ensures only { IfErr result (λ fault. (fault ≡ Fault.NoMemory) ⊎ (fault ≡ Fault.Stopped)) }
@@ -296,9 +277,7 @@ impl<K: Keeper<ExecutorRecord>> ExecNode<K> {
         ensures as_told { IsTrue self.old.told → IsTrue (executor_outcome self.old input).saves → IsErr result }
         ensures same { OnErr result ((self.new.id ≡ self.old.id) × (self.new.u ≡ self.old.u)) }
         ensures old_record { OnErr result (self.new.saved ≡ self.old.saved) }
-        ensures counted { self.old.failures ≤ self.new.failures }
-        ensures untried { self.new.failures ≡ self.old.failures → self.new.told ≡ self.old.told }
-        ensures spent { self.old.failures < self.new.failures → self.new.told ≡ false }
+        ensures failures { CountsFailures self.old.failures self.old.told self.new.failures self.new.told }
         ensures unsaved { (executor_outcome self.old input).saves ≡ false → self.new.failures ≡ self.old.failures }
         ensures no_memory { result ≡ Err Fault.NoMemory → self.new.failures ≡ self.old.failures }
         ensures stopped { result ≡ Err Fault.Stopped → (self.old.failures < self.new.failures) ⊎ IsExecutorAtLimit self.old input }
@@ -333,9 +312,7 @@ impl<K: Keeper<ExecutorRecord>> ExecNode<K> {
         ensures ends { OnErr result ((result ≡ Err Fault.Unfit) ⊎ IsTrue (not self.new.up)) }
         ensures same { OnErr result ((self.new.id ≡ self.old.id) × (self.new.u ≡ self.old.u)) }
         ensures old_record { OnErr result (self.new.saved ≡ self.old.saved) }
-        ensures counted { self.old.failures ≤ self.new.failures }
-        ensures untried { self.new.failures ≡ self.old.failures → self.new.told ≡ self.old.told }
-        ensures spent { self.old.failures < self.new.failures → self.new.told ≡ false }
+        ensures failures { CountsFailures self.old.failures self.old.told self.new.failures self.new.told }
         ensures unsaved { (executor_outcome self.old input).saves ≡ false → self.new.failures ≡ self.old.failures }
 
         // When each comes.
@@ -380,9 +357,7 @@ impl<K: Keeper<ExecutorRecord>> ExecNode<K> {
         ensures as_told { IsTrue self.old.told → IsSome (job_of self.old.state.work) → IsErr result }
         ensures same { OnErr result ((self.new.id ≡ self.old.id) × (self.new.u ≡ self.old.u)) }
         ensures old_record { OnErr result (self.new.saved ≡ self.old.saved) }
-        ensures counted { self.old.failures ≤ self.new.failures }
-        ensures untried { self.new.failures ≡ self.old.failures → self.new.told ≡ self.old.told }
-        ensures spent { self.old.failures < self.new.failures → self.new.told ≡ false }
+        ensures failures { CountsFailures self.old.failures self.old.told self.new.failures self.new.told }
         ensures no_memory { result ≡ Err Fault.NoMemory → self.new.failures ≡ self.old.failures }
         ensures stopped { result ≡ Err Fault.Stopped → (self.old.failures < self.new.failures) ⊎ (self.old.failures ≡ 2 ^ 64 - 1) }
         ensures only { IfErr result (λ fault. (fault ≡ Fault.NoMemory) ⊎ (fault ≡ Fault.Stopped)) }
@@ -414,9 +389,7 @@ impl<K: Keeper<ExecutorRecord>> ExecNode<K> {
         ensures ends { OnErr result (IsTrue (not self.new.up)) }
         ensures same { OnErr result ((self.new.id ≡ self.old.id) × (self.new.u ≡ self.old.u)) }
         ensures old_record { OnErr result (self.new.saved ≡ self.old.saved) }
-        ensures counted { self.old.failures ≤ self.new.failures }
-        ensures untried { self.new.failures ≡ self.old.failures → self.new.told ≡ self.old.told }
-        ensures spent { self.old.failures < self.new.failures → self.new.told ≡ false }
+        ensures failures { CountsFailures self.old.failures self.old.told self.new.failures self.new.told }
 
         // When each comes.
         ensures stopped_before { IsTrue (not self.old.up) → result ≡ Err Fault.Stopped }

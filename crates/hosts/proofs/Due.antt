@@ -5,8 +5,8 @@ use Rattle.decrees.specs.declared.node.Letter.{Letter}
 use Rattle.exec_lines.specs.declared.body.Body.{Body}
 use Rattle.exec_lines.specs.declared.input.Input.TheVariants as input
 use Rattle.exec_node.specs.Executor.{ExecutorView}
-use Rattle.worlds.specs.Slot.{Slot}
-use Rattle.worlds.specs.Slots.{ExecutorSettles}
+use Rattle.slots.specs.Slot.{Slot}
+use Rattle.slots.specs.Slots.{ExecutorSettles}
 use Rattle.hosts.specs.Host.{HostView, LettersAreAmong}
 use Rattle.hosts.specs.Due.{due_order, HostGetsOrder, HostTakesDue}
 use Rattle.hosts.specs.Orders.{awaited_of, StayHeld}

@@ -7,9 +7,9 @@ use Rattle.exec_lines.specs.declared.body.Body.TheVariants as body
 use Rattle.exec_lines.specs.declared.input.Input as of_executor
 use Rattle.exec_lines.specs.declared.input.Input.TheVariants as executor_input
 use Rattle.exec_node.specs.Executor.{ExecutorView}
-use Rattle.worlds.specs.Slot.{Slot}
-use Rattle.worlds.specs.Slots.{ExecutorSettles, ExecutorReopens}
-use Rattle.worlds.specs.Runs.{ExecutorRuns}
+use Rattle.slots.specs.Slot.{Slot}
+use Rattle.slots.specs.Slots.{ExecutorSettles, ExecutorReopens}
+use Rattle.slots.specs.Runs.{ExecutorRuns}
 
 pub record HostView : Type 0 where
   pub slot : Slot ExecutorView

@@ -7,8 +7,8 @@ use Rattle.exec_lines.specs.declared.body.Body.{Body}
 use Rattle.exec_lines.specs.declared.body.Body.TheVariants as body
 use Rattle.exec_lines.specs.State.{ExecutorState}
 use Rattle.exec_node.specs.Executor.{ExecutorView}
-use Rattle.worlds.specs.Slot.{Slot}
-use Rattle.worlds.specs.Status.{node_at}
+use Rattle.slots.specs.Slot.{Slot}
+use Rattle.slots.specs.Status.{node_at}
 use Rattle.hosts.specs.Host.{HostView}
 
 -- the epoch and the number of the batch that is ordered, if one is

@@ -3,8 +3,8 @@ use Rattle.std.specs.Prelude.{ℕ, ◌+◌, ◌-◌, ◌^◌, min, Option, None,
 use Rattle.std.specs.Option.{option_map}
 use Rattle.exec_lines.specs.Job.{job_of}
 use Rattle.exec_node.specs.Executor.{ExecutorView}
-use Rattle.worlds.specs.Slot.{Slot}
-use Rattle.worlds.specs.Status.{node_at}
+use Rattle.slots.specs.Slot.{Slot}
+use Rattle.slots.specs.Status.{node_at}
 
 -- how many requests the batch has that it is to run, if it is up and has a job
 abbrev pub job_len_in : Option ExecutorView → Option ℕ

@@ -2,7 +2,7 @@
 use Rattle.std.specs.Prelude.{◌≡◌, List, []}
 use Rattle.decrees.specs.declared.node.Letter.{Letter}
 use Rattle.exec_lines.specs.declared.body.Body.{Body}
-use Rattle.worlds.specs.Slots.{executor_kept, crashed_slot}
+use Rattle.slots.specs.Slots.{executor_kept, crashed_slot}
 use Rattle.hosts.specs.Host.{HostView}
 
 -- its executor stopped, if it was up, and is down with what it kept

@@ -6,13 +6,13 @@ use crate::held::{hold, is_order};
 use decrees::Letter;
 use exec_lines::{Body, ExecutorRecord, Input};
 use keeper::MemKeeper;
+use slots::ExecutorSlot;
 use std::alloc::Global;
 use std::marker::Model;
 use std::mem;
 use std::sync::Wait;
 use std::thread::Threads;
 use workers::Workers;
-use worlds::ExecutorSlot;
 
 /// An executor with the orders that wait for their turn. It cannot be dropped, since an executor cannot:
 /// `end` ends it.
@@ -27,7 +27,7 @@ impl Model for ExecutorHost {
     ghost use Rattle.decrees.specs.contracts.node.Letter as letter;
     ghost use Rattle.exec_lines.specs.contracts.body.Body as body;
     ghost use Rattle.exec_lines.specs.contracts.state.State as state;
-    ghost use Rattle.worlds.specs.UpSlots.{executor_slot_code};
+    ghost use Rattle.slots.specs.UpSlots.{executor_slot_code};
     ghost use Rattle.hosts.specs.Host.{HostView, host_code};
 
     ghost Value = { HostView };
@@ -40,9 +40,9 @@ impl Model for ExecutorHost {
 impl ExecutorHost {
     ghost use Rattle.std.specs.Prelude.{◌≡◌, ◌<◌, ◌≤◌, ◌*◌, ◌++◌, ◌∷◌, [], true, is_some};
     ghost use Rattle.exec_lines.specs.declared.input.Input.TheVariants.{Cut};
-    ghost use Rattle.worlds.specs.declared.slot.Slot.TheVariants.{Down};
-    ghost use Rattle.worlds.specs.World.{nothing_kept};
-    ghost use Rattle.worlds.specs.Status.{node_at};
+    ghost use Rattle.slots.specs.declared.slot.Slot.TheVariants.{Down};
+    ghost use Rattle.slots.specs.Slots.{nothing_kept};
+    ghost use Rattle.slots.specs.Status.{node_at};
     ghost use Rattle.hosts.specs.Host.{HostSettles, HostTakes, HostRuns, HostReopens, HostCollects, is_order as of_order};
     ghost use Rattle.hosts.specs.Stops.{HostStops};
 

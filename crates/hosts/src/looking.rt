@@ -1,8 +1,8 @@
 //! What a host shows of its executor.
 
 ghost use Rattle.std.specs.Prelude.{◌≡◌, IfOk, Some};
-ghost use Rattle.worlds.specs.Laws.{kept_at, is_gone};
-ghost use Rattle.worlds.specs.Slots.{executor_kept};
+ghost use Rattle.slots.specs.Status.{kept_at, is_gone};
+ghost use Rattle.slots.specs.Slots.{executor_kept};
 ghost use Rattle.hosts.specs.Shown.{job_len_of, steps_of, epoch_of};
 
 use crate::executor_host::ExecutorHost;

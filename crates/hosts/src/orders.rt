@@ -10,8 +10,8 @@ use crate::held::{has_order, take_order};
 use decrees::Letter;
 use exec_lines::{Body, Input, State};
 use rollback::MOST_MEMBERS;
+use slots::ExecutorSlot;
 use std::alloc::Global;
-use worlds::ExecutorSlot;
 
 /// Whether it executes a batch, or its chain has no room.
 fn is_busy(state: &State) -> bool

@@ -1,5 +1,6 @@
 ghost use Rattle.std.specs.Prelude.{◌≡◌, ◌<◌, ◌≤◌, ◌⊎◌, ◌^◌, ◌-◌, List, ℕ, Bool, false, Option, Some, OnOk, OnErr, IfErr, IsTrue, IsErr};
 ghost use Rattle.std.specs.Option.{option_map};
+ghost use Rattle.keeper.specs.Kept.{TriesToSave};
 
 use crate::to_text::ToText;
 use proto::Fault;
@@ -24,13 +25,8 @@ pub trait Keeper<R: ToText> {
     /// is not set to fail. So the caller sees to it that the count is not at its limit.
     fn save(&mut self, value: R) -> Result<(), Fault>
         requires countable { failed self.old < 2 ^ 64 - 1 }
-        ensures kept { OnOk result (saved self.new ≡ Some (R.text value)) }
-        ensures none_failed { OnOk result (failed self.new ≡ failed self.old) }
-        ensures same_word { OnOk result (told self.new ≡ told self.old) }
-        ensures as_told { IsTrue (told self.old) → IsErr result }
-        ensures old { OnErr result (saved self.new ≡ saved self.old) }
-        ensures counted { OnErr result (failed self.old < failed self.new) }
-        ensures spent { OnErr result (told self.new ≡ false) };
+        ensures tries { TriesToSave saved failed told (R.text value) self.old self.new result }
+        ensures failure { OnErr result (failed self.old < failed self.new) };
 
     /// The record, whole.
     fn load(&self) -> Option<&R>
@@ -45,16 +41,9 @@ pub trait Keeper<R: ToText> {
 /// then nothing was tried. After it the old record is there as before. There is no other error.
 /// Whether the next save is set to fail stays as it is, unless a save failed, which spends it.
 pub fn save_record<R: ToText, K: Keeper<R>>(value: R, keeper: &mut K) -> Result<(), Fault>
-    ensures kept { OnOk result (K.saved keeper.new ≡ Some (R.text value)) }
-    ensures none_failed { OnOk result (K.failed keeper.new ≡ K.failed keeper.old) }
-    ensures same_word { OnOk result (K.told keeper.new ≡ K.told keeper.old) }
-    ensures as_told { IsTrue (K.told keeper.old) → IsErr result }
-    ensures old { OnErr result (K.saved keeper.new ≡ K.saved keeper.old) }
+    ensures tries { TriesToSave K.saved K.failed K.told (R.text value) keeper.old keeper.new result }
     ensures stopped { OnErr result ((K.failed keeper.old < K.failed keeper.new) ⊎ (K.failed keeper.old ≡ 2 ^ 64 - 1)) }
     ensures only { IfErr result (λ fault. fault ≡ Fault.Stopped) }
-    ensures counted { K.failed keeper.old ≤ K.failed keeper.new }
-    ensures untried { K.failed keeper.new ≡ K.failed keeper.old → K.told keeper.new ≡ K.told keeper.old }
-    ensures spent { K.failed keeper.old < K.failed keeper.new → K.told keeper.new ≡ false }
 {
     if keeper.failures() == u64::MAX {
         return Err(Fault::Stopped);

@@ -23,7 +23,7 @@ use Rattle.memcached_spec.specs.Order.{AllGiven, OrdersGrow, IsLinearizable}
 use Rattle.run_laws.specs.Run.{Executed, IsOver, IsRunFrom}
 use Rattle.run_laws.proofs.Elements.{in_head, in_tail, in_none, first_or_other}
 use Rattle.run_laws.proofs.Replies.{runs_next}
-use Rattle.server_laws.specs.InTime.{WasCut}
+use Rattle.one_server_laws.specs.InTime.{WasCut}
 use Rattle.linear_laws.specs.InTime.{IsStepOfAsked, IsBatchOfCut, FollowAsBatches, AreBatchesOfCuts, OrdersGrowInTime, IsLinearizableInTime}
 use Rattle.linear_laws.proofs.Answers.{number_stays}
 use Rattle.linear_laws.proofs.Rounds.{RoundMade, RanOne, steps_made, runner_in}

@@ -13,15 +13,15 @@ use Rattle.states.specs.Followed.{moment_of}
 use Rattle.memcached_spec.specs.Asked.{asked, TextsBy}
 use Rattle.client.proofs.TakenLemmas.{texts_imply}
 use Rattle.events.specs.declared.event.Event.{Event}
-use Rattle.worlds.specs.Slots.{ClientSlot}
+use Rattle.worlds.specs.Clients.{ClientSlot}
 use Rattle.worlds.specs.World.{WorldView}
 use Rattle.run_laws.specs.Run.{Executed, IsRunFrom}
 use Rattle.run_laws.proofs.Elements.{in_head, in_tail, in_none}
 use Rattle.memcached_spec.specs.Fed.{fed_to, IsMoment}
-use Rattle.server_laws.specs.Saved.{IsMet}
-use Rattle.server_laws.specs.Served.{WasAnswered}
-use Rattle.server_laws.specs.Run.{IsRun, RunsGrow}
-use Rattle.server_laws.specs.InTime.{WasCut, RunsGrowInTime, IsOneServerInTime, WorldsAreInTime}
+use Rattle.one_server_laws.specs.Saved.{IsMet}
+use Rattle.one_server_laws.specs.Served.{WasAnswered}
+use Rattle.one_server_laws.specs.Run.{IsRun, RunsGrow}
+use Rattle.one_server_laws.specs.InTime.{WasCut, RunsGrowInTime, IsOneServerInTime, WorldsAreInTime}
 use Rattle.memcached_spec.specs.Server.{Line, Tick}
 use Rattle.memcached_spec.specs.Order.{replies_from, IsExecutedFor, IsAnsweredBy, IsOrder, OrdersGrow}
 use Rattle.linear_laws.specs.InTime.{AreBatchesOfCuts, OrdersGrowInTime, IsLinearizableInTime}

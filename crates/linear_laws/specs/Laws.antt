@@ -9,11 +9,10 @@ use Rattle.states.specs.State.{StateView, initial_state}
 use Rattle.run_laws.specs.Run.{Executed, IsOver, IsRunFrom, Extends}
 use Rattle.events.specs.declared.event.Event.{Event}
 use Rattle.events.specs.Config.{ConfigView}
-use Rattle.worlds.specs.World.{WorldView, ReachedWorlds}
-use Rattle.worlds.specs.Laws.{IsReached}
-use Rattle.server_laws.specs.Saved.{IsMet, DigestsAreDistinct}
+use Rattle.worlds.specs.World.{WorldView, ReachedWorlds, IsReached}
+use Rattle.one_server_laws.specs.Saved.{IsMet, DigestsAreDistinct}
 use Rattle.worlds.specs.Asked.{IsAskedRequest}
-use Rattle.server_laws.specs.Run.{IsRun, IsOneServer}
+use Rattle.one_server_laws.specs.Run.{IsRun, IsOneServer}
 use Rattle.memcached_spec.specs.Order.{AllGiven, IsLinearizable}
 use Rattle.memcached_spec.specs.Server.{Server, Line, Leads, new_server}
 use Rattle.linear_laws.specs.InTime.{IsLinearizablePlay}

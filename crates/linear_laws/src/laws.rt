@@ -2,9 +2,11 @@
 
 ghost use Rattle.linear_laws.specs.Laws.{RoundIsOneList, RunIsOneList, ListGoesOn, AskedLaterIsLater, PlaysAreLinearizable, ReachedAreLinearizable, GetsMayOverlap};
 
-use server_laws::worlds_are_in_time;
+use one_server_laws::worlds_are_in_time;
 
 /// A round is one list of item steps, and so is a run, whose list goes on if the run does.
+///
+/// No code calls it: it is for readers.
 pub fn rounds_are_one_list()
     ensures round { RoundIsOneList }
     ensures run { RunIsOneList }
@@ -12,11 +14,15 @@ pub fn rounds_are_one_list()
 {}
 
 /// A request that was not asked yet is behind all rounds of the run so far.
+///
+/// No code calls it: it is for readers.
 pub fn asked_later_is_later()
     ensures { AskedLaterIsLater }
 {}
 
 /// A play that shows one server is linearizable.
+///
+/// No code calls it: it is for readers.
 pub fn plays_are_linearizable()
     ensures { PlaysAreLinearizable }
 {}
@@ -31,6 +37,8 @@ pub fn reached_are_linearizable()
 
 /// A get of several keys is no one step: the mixer lets two of them and two sets run in one group, so that
 /// each get sees another set of the two.
+///
+/// No code calls it: it is for readers.
 pub fn gets_of_several_keys_may_overlap()
     ensures { GetsMayOverlap }
 {}

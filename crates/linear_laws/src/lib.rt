@@ -1,6 +1,6 @@
 //! What shows one server is linearizable: laws, and their proofs.
 //!
-//! It is built on `server_laws`, whose run it takes apart into steps on items, and on `memcached_spec`, which says
+//! It is built on `one_server_laws`, whose run it takes apart into steps on items, and on `memcached_spec`, which says
 //! what linearizable is. The layer above uses `reached_are_linearizable`.
 #![tactic(auto)]
 

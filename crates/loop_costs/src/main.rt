@@ -7,11 +7,11 @@ mod store;
 mod stub;
 
 use crate::stub::Stub;
+use command_line::words_of;
 use event_loop::{Admission, Listener, read_out, serve};
 use mio::net::TcpListener;
 use std::io;
 use std::net::{Ipv4Addr, SocketAddr, SocketAddrV4};
-use words::words_of;
 
 fn port_of(words: &[String]) -> Option<u16> {
     words.get(2)?.as_str().parse::<u16>().ok()

@@ -2,7 +2,8 @@
 //! a `get late` only at a tick: so it uses all that an event loop offers.
 
 use crate::store::Store;
-use event_loop::{Heard, MOST_UNWRITTEN, Said, Serve};
+use event_loop::Serve;
+use loop_messages::{Heard, MOST_UNWRITTEN, Said};
 use proto::{Command, Reader, Turn, write_reply};
 use std::alloc::{AllocError, Global};
 use std::collections::VecDeque;

@@ -9,8 +9,8 @@ use Rattle.exec_lines.specs.declared.body.Body.{Body}
 use Rattle.exec_lines.specs.declared.body.Body.TheVariants as body
 use Rattle.verifier.specs.declared.input.Input.TheVariants as verifier_input
 use Rattle.verifier.specs.Verifier.{VerifierView}
-use Rattle.worlds.specs.Slot.{Slot}
-use Rattle.worlds.specs.World.{as_sent}
+use Rattle.slots.specs.Slot.{Slot}
+use Rattle.slots.specs.Sending.{as_sent}
 use Rattle.hosts.specs.Host.{HostView, HostTakes}
 use Rattle.ensemble.specs.declared.answer.Answer.{Answer}
 use Rattle.ensemble.specs.Nodes.{NodesView, MayGrow, HostMoves, VerifierMoves, VerifierGets, VerifiersReached, ProxyReached, NodesReached, IsPosted, AsksAgain}

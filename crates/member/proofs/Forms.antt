@@ -3,7 +3,7 @@ use Rattle.std.proofs.Common.{◌≡◌, ◌≢◌, ⊎_elim, ℕ, zero, suc, �
 use Rattle.std.proofs.lemmas.Bool.{cases_lt}
 use Rattle.std.proofs.lemmas.Option.{same_Some}
 use Rattle.keeper.specs.Kept.{Kept}
-use Rattle.worlds.specs.World.{nothing_kept}
+use Rattle.slots.specs.Slots.{nothing_kept}
 use Rattle.ensemble.specs.Kept.{ProcessView}
 use Rattle.ensemble.proofs.Lists.{set_cases}
 use Rattle.site_laws.specs.Lives.{MemberKept}

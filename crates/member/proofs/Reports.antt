@@ -6,7 +6,7 @@ use Rattle.exec_lines.specs.State.{ExecutorState}
 use Rattle.exec_lines.specs.Record.{saved_text}
 use Rattle.exec_lines.specs.Kept.{saved_record}
 use Rattle.exec_lines.specs.declared.record.Saved.{Saved}
-use Rattle.worlds.specs.Status.{node_at}
+use Rattle.slots.specs.Status.{node_at}
 use Rattle.hosts.specs.Host.{HostView}
 use Rattle.following.specs.declared.report.ExecutorReport.{ExecutorReport}
 use Rattle.member.specs.Reporting.{IsExtentOfSaved, IsExtentOfText, IsExtentOfKept, IsKeptReport, IsReportOf, IsReportAt}

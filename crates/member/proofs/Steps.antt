@@ -12,7 +12,7 @@ use Rattle.exec_lines.specs.declared.body.Body.{Body}
 use Rattle.events.specs.Config.{ConfigView}
 use Rattle.memcached_spec.specs.Asked.{HasText}
 use Rattle.verifier.specs.Verifier.{VerifierView}
-use Rattle.worlds.specs.Slot.{Slot}
+use Rattle.slots.specs.Slot.{Slot}
 use Rattle.exec_lines.specs.declared.input.Input.TheVariants.{Cut}
 use Rattle.hosts.specs.Host.{HostView, LettersAreAmong, HostSettles}
 use Rattle.ensemble.specs.declared.answer.Answer.{Answer}

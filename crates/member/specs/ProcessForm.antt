@@ -1,7 +1,7 @@
 -- The record of a member, in the form of that of a process.
 use Rattle.std.specs.Prelude.{◌≡◌, ◌≢◌, ℕ, ◌<◌, ◌+◌, ◌*◌, List, replicate, Some, slice_get, slice_set}
 use Rattle.keeper.specs.Kept.{Kept}
-use Rattle.worlds.specs.World.{nothing_kept}
+use Rattle.slots.specs.Slots.{nothing_kept}
 use Rattle.ensemble.specs.Kept.{ProcessView}
 use Rattle.site_laws.specs.Lives.{MemberKept}
 

@@ -4,7 +4,7 @@ use Rattle.rollback.specs.Chain.{ChainView, chain_text}
 use Rattle.exec_lines.specs.State.{ExecutorState}
 use Rattle.exec_lines.specs.Record.{executor_text}
 use Rattle.exec_lines.specs.declared.record.Saved.{Saved}
-use Rattle.worlds.specs.Status.{node_at}
+use Rattle.slots.specs.Status.{node_at}
 use Rattle.hosts.specs.Host.{HostView}
 use Rattle.ensemble.specs.Kept.{kept_of_host}
 use Rattle.ensemble.specs.Shown.{has_job}

@@ -3,13 +3,13 @@
 ghost use Rattle.std.specs.Prelude.{◌≡◌};
 
 use crate::member_record::MemberRecord;
-use http_server::Log;
+use ghost_log::GhostLog;
 use std::marker::Model;
 
 /// What a process of a member began with, if it began with what was kept of another one. Only proofs read it: it takes no
 /// memory.
 pub struct FoundLog {
-    entries: Log<MemberRecord, bool>,
+    entries: GhostLog<MemberRecord, bool>,
 }
 
 impl Drop for FoundLog {
@@ -40,7 +40,7 @@ impl FoundLog {
         ensures { result ≡ None }
     {
         FoundLog {
-            entries: Log::new(),
+            entries: GhostLog::new(),
         }
     }
 
@@ -49,7 +49,7 @@ impl FoundLog {
         ensures { result ≡ Some found.now }
     {
         FoundLog {
-            entries: Log::new().and(found, &true),
+            entries: GhostLog::new().and(found, &true),
         }
     }
 }

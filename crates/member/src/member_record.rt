@@ -10,11 +10,11 @@ use exec_lines::ExecutorRecord;
 use hosts::ExecutorHost;
 use keeper::MemKeeper;
 use proxies::Proxy;
+use slots::VerifierSlot;
 use std::alloc::{AllocError, Global};
 use std::collections::VecDeque;
 use std::marker::Model;
 use std::mem;
-use worlds::VerifierSlot;
 
 /// What is kept of a member when its process ends, of one moment: what the keepers of its executor and its verifier have,
 /// and what each proxy asked last. Another process of the member goes on from it.

@@ -1,8 +1,8 @@
 //! A member before the first letter.
 
 ghost use Rattle.std.specs.Prelude.{◌≡◌, ◌↔◌, [], None, IfOk, IfErr, Err, replicate, IsTrue};
-ghost use Rattle.worlds.specs.declared.slot.Slot.TheVariants.{Down};
-ghost use Rattle.worlds.specs.World.{nothing_kept};
+ghost use Rattle.slots.specs.declared.slot.Slot.TheVariants.{Down};
+ghost use Rattle.slots.specs.Slots.{nothing_kept};
 ghost use Rattle.site_laws.specs.Site.{unopened_nodes as not_opened};
 ghost use Rattle.member.specs.Member.{HasPlace};
 
@@ -12,9 +12,9 @@ use crate::shown_log::ShownLog;
 use ensemble::{Config, Nodes, Replica, first_proxies};
 use hosts::ExecutorHost;
 use proto::Fault;
+use slots::VerifierSlot;
 use std::alloc::{AllocError, Global};
 use std::collections::VecDeque;
-use worlds::VerifierSlot;
 
 /// So many executors that were never opened. Room is taken first, since they cannot be dropped.
 pub(crate) fn unopened_executors(alloc: Global, count: u8) -> Result<Vec<ExecutorHost>, AllocError>

@@ -2,7 +2,7 @@
 
 ghost use Rattle.std.specs.Prelude.{◌≡◌, ◌<◌, ◌↔◌, None, Some, replicate, slice_set, IfOk, IfSome, IsTrue};
 ghost use Rattle.keeper.specs.Kept.{Kept};
-ghost use Rattle.worlds.specs.World.{nothing_kept};
+ghost use Rattle.slots.specs.Slots.{nothing_kept};
 ghost use Rattle.ensemble.specs.Nodes.{AreNumbered};
 ghost use Rattle.member.specs.ProcessForm.{kept_alone, HasNoOther};
 

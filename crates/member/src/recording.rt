@@ -17,9 +17,9 @@ use hosts::ExecutorHost;
 use keeper::MemKeeper;
 use proto::Fault;
 use proxies::Proxy;
+use slots::VerifierSlot;
 use std::alloc::{AllocError, Global};
 use std::collections::VecDeque;
-use worlds::VerifierSlot;
 
 /// These proxies once more.
 pub(crate) fn copied(alloc: Global, proxies: &[Proxy]) -> Result<Vec<Proxy>, AllocError>

@@ -4,13 +4,13 @@ use crate::shown_entry::ShownEntry;
 use decrees::Letter;
 use ensemble::Answer;
 use exec_lines::Body;
-use http_server::Log;
+use ghost_log::GhostLog;
 use sessions::Request;
 use std::marker::Model;
 
 /// What a member has shown, which only proofs read: it takes no memory.
 pub struct ShownLog {
-    entries: Log<ShownEntry, bool>,
+    entries: GhostLog<ShownEntry, bool>,
 }
 
 impl Drop for ShownLog {
@@ -42,7 +42,7 @@ impl ShownLog {
         ensures { result ≡ [] }
     {
         ShownLog {
-            entries: Log::new(),
+            entries: GhostLog::new(),
         }
     }
 

@@ -1,5 +1,5 @@
 //! Small plays that the prover computes: which decrees are chosen by letters, and what is served of them. It
-//! is built on `agreement_laws`, `run_laws` and `server_laws`, whose definitions it computes, and no crate is built on
+//! is built on `agreement_laws`, `run_laws` and `one_server_laws`, whose definitions it computes, and no crate is built on
 //! it. Tokens are 32 equal bytes: that one round follows from another is no part of it.
 #![tactic(auto)]
 

@@ -5,7 +5,7 @@ ghost use Rattle.batches.specs.declared.batch.Batch.{Batch};
 ghost use Rattle.decrees.specs.declared.decree.Decree.TheVariants.{Commit, Rollback};
 ghost use Rattle.agreement_laws.specs.ChosenList.{chosen};
 ghost use Rattle.run_laws.specs.Chosen.{commits, known_by};
-ghost use Rattle.server_laws.specs.Served.{IsServed};
+ghost use Rattle.one_server_laws.specs.Served.{IsServed};
 ghost use Rattle.play_samples.specs.Plays.{bytes, two, two_rounds, undone_letters, decree, before, later_letters};
 
 /// One verifier, which accepts two batches. Rounds with these tokens are those that the decrees name, and

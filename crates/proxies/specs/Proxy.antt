@@ -19,9 +19,10 @@ pub record ProxyView : Type 0 where
 abbrev pub asks : ProxyView → Command → Bool → ProxyView
 asks p command quiet = record { client = p.client; last = p.last + 1; asked = Some (record { request = next_request p.client p.last command; quiet = quiet }) }
 
-abbrev pub asked_quiet : Option Asked → ℕ → Option Bool
-asked_quiet None number = None
-asked_quiet (Some a) number = if a.request.number == number then Some a.quiet else None
+-- the request of this number is outstanding
+abbrev pub has_asked : Option Asked → ℕ → Bool
+has_asked None number = false
+has_asked (Some a) number = a.request.number == number
 
 -- what is outstanding
 abbrev pub request_of : Option Asked → Option Request

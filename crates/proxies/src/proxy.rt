@@ -40,7 +40,7 @@ impl Proxy {
     ghost use Rattle.std.specs.Prelude.{◌≡◌, ◌≤◌, ◌⊎◌, ◌^◌, ◌-◌, ◌+◌, None, Some, IfOk, OnErr, OnOk, Err, IfErr, is_none};
     ghost use Rattle.std.specs.Option.{option_map};
     ghost use Rattle.client.specs.Talk.{next_request};
-    ghost use Rattle.proxies.specs.Proxy.{asks, answers, asked_quiet, request_of};
+    ghost use Rattle.proxies.specs.Proxy.{asks, answers, has_asked, request_of};
 
     /// One that has asked nothing. Clients are numbered from 1.
     pub fn new(client: u16) -> Proxy
@@ -129,18 +129,19 @@ impl Proxy {
         Ok(copy)
     }
 
-    /// The request of this number is answered: whether its reply is left out. None, and nothing changes: that
-    /// request is not outstanding.
-    pub fn answer(&mut self, number: u64) -> Option<bool>
+    /// The request of this number is answered. False, and nothing changes: that request is not outstanding.
+    pub fn answer(&mut self, number: u64) -> bool
         ensures after { self.new ≡ answers self.old number }
-        ensures quiet { result ≡ asked_quiet self.old.asked number }
+        ensures was_asked { result ≡ has_asked self.old.asked number }
     {
-        let quiet = match &self.asked {
-            Some(asked) if asked.request.number == number => asked.quiet,
-            _ => return None,
+        let was_asked = match &self.asked {
+            Some(asked) => asked.request.number == number,
+            None => false,
         };
-        self.asked = None;
-        Some(quiet)
+        if was_asked {
+            self.asked = None;
+        }
+        was_asked
     }
 
     /// What is outstanding, which is to be sent to all executors once more. None: nothing is outstanding.

@@ -1,6 +1,6 @@
 -- What has left a service, and the moments at which another process may find it.
 use Rattle.std.specs.Prelude.{◌≡◌, ◌⊎◌, ℕ, List, [], ◌++◌, Option, Contains}
-use Rattle.event_loop.specs.declared.message.Said.{Said}
+use Rattle.loop_messages.specs.declared.message.Said.{Said}
 use Rattle.service.specs.Service.{ServiceView}
 use Rattle.service.specs.Record.{RecordView}
 use Rattle.server.specs.Answering.{AnsweringView}

@@ -6,7 +6,7 @@ use Rattle.std.proofs.Crossing.{crosses}
 use Rattle.std.proofs.alloc.Global.TheSendSync as global
 use Rattle.std.proofs.collections.VecDeque.TheSendSync as deque
 use Rattle.std.proofs.vec.Vec.TheSendSync as vec
-use Rattle.event_loop.proofs.message.Said.TheSendSync as said
+use Rattle.loop_messages.proofs.message.Said.TheSendSync as said
 use Rattle.figures.proofs.histogram.Histogram.TheSendSync as histogram
 use Rattle.service.proofs.Crossing.{service_send}
 use Rattle.server.proofs.answering.Lost.TheSendSync as lost

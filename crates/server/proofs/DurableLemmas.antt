@@ -1,7 +1,7 @@
 -- A save of the record of a moment, beside the work after it or alone.
 use Rattle.std.proofs.Common.{◌≡◌, ℕ, List, [], ◌++◌, Option, refl, sym, ap, ◌∙◌, ◌⊎◌, inl, inr}
 use Rattle.std.proofs.lemmas.List.{append-nil}
-use Rattle.event_loop.specs.declared.message.Said.{Said}
+use Rattle.loop_messages.specs.declared.message.Said.{Said}
 use Rattle.service.specs.Record.{RecordView, kept_in}
 use Rattle.service.specs.Process.{kept_service}
 use Rattle.server.specs.Answering.{AnsweringView, DoesWhatIsDue}

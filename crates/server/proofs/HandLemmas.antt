@@ -4,14 +4,13 @@ use Rattle.std.specs.Prelude.{false, Result, Ok, Err, IfOk, OnErr}
 use Rattle.std.specs.List.{AllZip}
 use Rattle.std.proofs.lemmas.List.{append-nil, length-append, nil_from_length}
 use Rattle.base.specs.declared.fault.Fault.{Fault}
-use Rattle.connections.specs.declared.said.Said as of_service
 use Rattle.connections.specs.Connections.{HasSameLogs}
 use Rattle.connections.specs.Slots.{left_at, is_here}
 use Rattle.connections.specs.Told.{IsToldAt}
 use Rattle.service.specs.Service.{ServiceView, HasSameRequests}
 use Rattle.server.specs.declared.answering.Lost.{Lost}
-use Rattle.event_loop.specs.declared.message.Heard.{Heard}
-use Rattle.event_loop.specs.declared.message.Said.{Said}
+use Rattle.loop_messages.specs.declared.message.Heard.{Heard}
+use Rattle.loop_messages.specs.declared.message.Said.{Said}
 use Rattle.server.specs.Answering.{AnsweringView, Says, SaysNothing, IsSameBut, SaysEach, Closings, IsLastMessage, IsSaidOf, SaysWhat, IsToldAfter, HandsIn, HandsInAll}
 
 -- one more
@@ -28,12 +27,12 @@ says_nothing v old now said lost left is logs requests =
       requests = subst (λ (a : AnsweringView). HasSameRequests a.service now) is requests;
     }
 
-pub says_what : (v now : AnsweringView) (key number : ℕ) (result : Result of_service.Said Fault) (told : Said) → IsSaidOf key number result told → Says v told now → SaysWhat v key number result now
+pub says_what : (v now : AnsweringView) (key number : ℕ) (result : Result Said Fault) (told : Said) → IsSaidOf key number result told → Says v told now → SaysWhat v key number result now
 says_what v now key number (Ok said) told is says = subst (λ (x : Said). Says v x now) is says
 says_what v now key number (Err fault) told is says = (told, is, says)
 
 -- what the connection is told is how it is then
-pub told_after : (key number : ℕ) (v now : ServiceView) (result : Result of_service.Said Fault) → IfOk result (λ said. IsToldAt (record { key = key; number = number }) v.connections.table now.connections.table said) → OnErr result (is_here number now.connections.table key ≡ false) → IsToldAfter key number v now result
+pub told_after : (key number : ℕ) (v now : ServiceView) (result : Result Said Fault) → IfOk result (λ said. IsToldAt (record { key = key; number = number }) v.connections.table now.connections.table said) → OnErr result (is_here number now.connections.table key ≡ false) → IsToldAfter key number v now result
 told_after key number v now (Ok said) told leaves = told
 told_after key number v now (Err fault) told leaves = leaves
 

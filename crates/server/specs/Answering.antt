@@ -4,15 +4,14 @@ use Rattle.std.specs.List.{AllZip}
 use Rattle.std.specs.Coded.{Coded, code_by, coded×, coded_list}
 use Rattle.base.specs.declared.fault.Fault.{Fault}
 use Rattle.grammar.specs.Reads.{with_mark}
-use Rattle.connections.specs.declared.said.Said as of_service
 use Rattle.connections.specs.Connections.{HasSameLogs}
 use Rattle.connections.specs.History.{moment_as}
 use Rattle.connections.specs.Connection.{new_connection}
 use Rattle.connections.specs.Slots.{slot_in, is_here, left_at, written_at, HasSameOthers, IsGrown}
 use Rattle.connections.specs.Told.{IsToldAt}
-use Rattle.event_loop.specs.declared.message.Heard.{Heard}
-use Rattle.event_loop.specs.declared.message.Heard.TheVariants.{Came, Bytes, Written, Left}
-use Rattle.event_loop.specs.declared.message.Said.{Said}
+use Rattle.loop_messages.specs.declared.message.Heard.{Heard}
+use Rattle.loop_messages.specs.declared.message.Heard.TheVariants.{Came, Bytes, Written, Left}
+use Rattle.loop_messages.specs.declared.message.Said.{Said}
 use Rattle.service.specs.Service.{ServiceView, HasSameRequests, HasSameSize, IsSameProcess, RestsUnlessRefused, Hears, given_entry, passed_entry}
 use Rattle.service.specs.Told.{AreTold, LeaversAreTold, UnlessRefused, AsksWhatWaits}
 use Rattle.server.specs.declared.answering.Lost.{Lost}
@@ -32,10 +31,6 @@ answering_code service said lost =
     (λ a. ((a.service, a.said), a.lost))
     (λ p. record { service = p.0.0; said = p.0.1; lost = p.1 })
     (λ _. refl)
-
--- what the service says, as a message to the event loop
-abbrev pub message_of : of_service.Said → Said
-message_of s = record { key = s.key; number = s.number; bytes = s.bytes; closes = s.closes; waits = s.waits }
 
 -- the connection is to be closed, and is told nothing more
 pub record IsLastMessage (key number : ℕ) (said : Said) : Type 0 where
@@ -95,16 +90,16 @@ pub record HandsLeft (key number : ℕ) (v now : AnsweringView) : Type 0 where
   pub table : now.service.connections.table ≡ left_at (record { key = key; number = number }) v.service.connections.table
 
 -- what a connection is told after the service heard a piece of it
-abbrev pub IsSaidOf : ℕ → ℕ → Result of_service.Said Fault → Said → Type 0
-IsSaidOf key number (Ok said) told = told ≡ message_of said
+abbrev pub IsSaidOf : ℕ → ℕ → Result Said Fault → Said → Type 0
+IsSaidOf key number (Ok said) told = told ≡ said
 IsSaidOf key number (Err fault) told = IsLastMessage key number told
 
-abbrev pub SaysWhat : AnsweringView → ℕ → ℕ → Result of_service.Said Fault → AnsweringView → Type 0
-SaysWhat v key number (Ok said) now = Says v (message_of said) now
+abbrev pub SaysWhat : AnsweringView → ℕ → ℕ → Result Said Fault → AnsweringView → Type 0
+SaysWhat v key number (Ok said) now = Says v said now
 SaysWhat v key number (Err fault) now = (last : Said) × IsLastMessage key number last × Says v last now
 
 -- The connection is told what the service says to it, as it is then; if the service failed it has left.
-abbrev pub IsToldAfter : ℕ → ℕ → ServiceView → ServiceView → Result of_service.Said Fault → Type 0
+abbrev pub IsToldAfter : ℕ → ℕ → ServiceView → ServiceView → Result Said Fault → Type 0
 IsToldAfter key number v now (Ok said) = IsToldAt (record { key = key; number = number }) v.connections.table now.connections.table said
 IsToldAfter key number v now (Err fault) = is_here number now.connections.table key ≡ false
 
@@ -112,7 +107,7 @@ IsToldAfter key number v now (Err fault) = is_here number now.connections.table 
 pub record HandsBytes (key number : ℕ) (piece : List ℕ) (v now : AnsweringView) : Type 0 where
   pub between : AnsweringView
   pub same_said : between.said ≡ v.said
-  pub result : Result of_service.Said Fault
+  pub result : Result Said Fault
   -- with a limit, whether it was reached comes with the bytes
   pub full : Bool
   pub hears : Hears key number (with_mark v.service.connections.dialect full piece) v.service.connections between.service.connections result
@@ -147,7 +142,7 @@ abbrev pub Closings : AnsweringView → AnsweringView → Type 0
 Closings v now = (closings : List Said) × AllZip (λ of said. IsLastMessage of.key of.number said) v.lost closings × SaysEach v closings now
 
 -- The service works at this moment, and this is what it gives: each thing at the key of its connection, which is here afterwards unless it is told to close. Its process, `u` and the number of its nodes stay. Unless something was refused it asks what waits, and then its replicas are at rest.
-pub record ServiceWorks (moment : ℕ) (v : ServiceView) (given : List of_service.Said) (now : ServiceView) : Type 0 where
+pub record ServiceWorks (moment : ℕ) (v : ServiceView) (given : List Said) (now : ServiceView) : Type 0 where
   pub given_is : now.connections.given ≡ v.connections.given ++ map given_entry given
   pub passed : now.connections.passed ≡ (v.connections.passed ++ moment_as moment ∷ []) ++ map passed_entry given
   pub heard : now.connections.heard ≡ v.connections.heard
@@ -163,11 +158,11 @@ pub record ServiceWorks (moment : ℕ) (v : ServiceView) (given : List of_servic
 pub record DoesWhatIsDue (moment : ℕ) (v : AnsweringView) (now : AnsweringView) : Type 0 where
   pub closed : AnsweringView
   pub closes : Closings v closed
-  pub given : List of_service.Said
+  pub given : List Said
   pub worked : AnsweringView
   pub works : ServiceWorks moment closed.service given worked.service
   pub waits : worked.said ≡ closed.said
-  pub says : SaysEach worked (map message_of given) now
+  pub says : SaysEach worked given now
 
 -- The same, and all that was said since this was last done is handed out.
 pub record HandsOut (moment : ℕ) (v : AnsweringView) (out : List Said) (now : AnsweringView) : Type 0 where

@@ -1,6 +1,6 @@
 -- What is saved of a service, and what leaves it: nothing before a record of that moment, or of a later one, is saved.
 use Rattle.std.specs.Prelude.{◌≡◌, ◌⊎◌, ℕ, List, [], ◌++◌, Option, None, Some}
-use Rattle.event_loop.specs.declared.message.Said.{Said}
+use Rattle.loop_messages.specs.declared.message.Said.{Said}
 use Rattle.service.specs.Service.{ServiceView}
 use Rattle.service.specs.Record.{RecordView, kept_in}
 use Rattle.service.specs.Process.{kept_service}

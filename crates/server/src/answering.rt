@@ -1,10 +1,11 @@
 //! The service, as the event loop uses it.
 
 ghost use Rattle.std.specs.Prelude.{◌≡◌};
-ghost use Rattle.server.specs.Answering.{message_of, IsLastMessage, IsSaidOf};
+ghost use Rattle.server.specs.Answering.{IsLastMessage, IsSaidOf};
 
-use event_loop::{Heard, Said, Serve};
+use event_loop::Serve;
 use figures::Figures;
+use loop_messages::{Heard, Said};
 use service::{Fault, Service, ServiceRecord};
 use std::alloc::Global;
 use std::collections::VecDeque;
@@ -30,52 +31,26 @@ pub struct Answering {
     lost: VecDeque<Lost>,
 }
 
-/// What the service says, as a message to the event loop.
-fn message(said: service::Said) -> Said
-    ensures { result ≡ message_of said }
-{
-    let service::Said {
-        key,
-        number,
-        bytes,
-        closes,
-        waits,
-    } = said;
-    Said {
-        key,
-        number,
-        bytes,
-        closes,
-        waits,
-    }
-}
-
 /// No bytes, to a connection that is to be closed.
 fn last(alloc: Global, key: usize, number: u64) -> Said
     ensures { IsLastMessage key number result }
 {
-    Said {
-        key,
-        number,
-        bytes: Vec::new(alloc),
-        closes: true,
-        waits: false,
-    }
+    Said::last(alloc, key, number)
 }
 
 /// What a connection is told after the service heard a piece of it.
-fn said_of(alloc: Global, key: usize, number: u64, heard: Result<service::Said, Fault>) -> Said
+fn said_of(alloc: Global, key: usize, number: u64, heard: Result<Said, Fault>) -> Said
     ensures { IsSaidOf key number heard result }
 {
     match heard {
-        Ok(said) => message(said),
+        Ok(said) => said,
         Err(_) => last(alloc, key, number),
     }
 }
 
 impl Model for Answering {
     ghost use Rattle.service.specs.contracts.service.Service as of_service;
-    ghost use Rattle.event_loop.specs.contracts.message.Said as of_said;
+    ghost use Rattle.loop_messages.specs.contracts.message.Said as of_said;
     ghost use Rattle.server.specs.contracts.answering.Lost as of_lost;
     ghost use Rattle.server.specs.Answering.{AnsweringView, answering_code};
 
@@ -199,11 +174,11 @@ impl Answering {
     }
 
     /// All of these are said.
-    fn say_all(&mut self, given: Vec<service::Said>)
-        ensures { SaysEach self.old (map message_of given.items) self.new }
+    fn say_all(&mut self, given: Vec<Said>)
+        ensures { SaysEach self.old given.items self.new }
     {
         for said in given {
-            self.say(message(said));
+            self.say(said);
         }
     }
 

@@ -7,8 +7,9 @@ ghost use Rattle.server.specs.Durable.{IsFoundOf};
 
 use crate::answering::Answering;
 use crate::save::{Save, SaveFolders};
-use event_loop::{Heard, Said, Serve};
+use event_loop::Serve;
 use figures::{Figures, Histogram, Saves, one_more};
+use loop_messages::{Heard, Said};
 use service::{SaveFault, Service, ServiceRecord};
 use std::alloc::Global;
 use std::mem;

@@ -29,7 +29,6 @@ const PROXIES: u16 = 64;
 const TOO_MANY: &[u8] = b"SERVER_ERROR too many sessions\r\n";
 
 // The event loop tells of written bytes once so many were said. A connection that has as many asks nothing until then.
-const _: () = prove!(event_loop::MOST_UNWRITTEN == service::MOST_UNWRITTEN);
 
 /// Where clients come.
 #[derive(Drop)]

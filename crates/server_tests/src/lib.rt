@@ -1,4 +1,4 @@
-//! Tests of `server` over loopback, of `streams` over readers and writers in memory, and of `serving`.
+//! Tests of `server` over loopback, of `streams` over readers and writers in memory, and of `housekeeping`.
 #![tactic(auto)]
 
 #[cfg(test)]

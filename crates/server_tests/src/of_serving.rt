@@ -1,6 +1,6 @@
 //! What the service decides.
 
-use serving::{Patience, Seen, Urge};
+use housekeeping::{Patience, Seen, Urge};
 use std::test::Fail;
 
 /// How far a server has come, after so many rests and steps.

@@ -8,7 +8,7 @@ use Rattle.proto.specs.declared.reply.Reply as replies
 use Rattle.sessions.specs.declared.request.Request.{Request}
 use Rattle.connections.specs.declared.connections.CommandNumber.{CommandNumber}
 use Rattle.connections.specs.declared.slots.ConnectionId.{ConnectionId}
-use Rattle.connections.specs.declared.said.Said.{Said}
+use Rattle.loop_messages.specs.declared.message.Said.{Said}
 use Rattle.connections.specs.Connections.{ConnectionsView, WasReplied}
 use Rattle.connections.proofs.SlotLemmas.{set_get}
 use Rattle.connections.proofs.TakeLemmas.{get_pushed, contains_at, one_of}

@@ -10,7 +10,7 @@ use Rattle.grammar.specs.Asks.{IsAskedIn}
 use Rattle.grammar.proofs.AskLemmas.{asked_stays}
 use Rattle.connections.specs.declared.connections.CommandNumber.{CommandNumber}
 use Rattle.connections.specs.declared.slots.ConnectionId.{ConnectionId}
-use Rattle.connections.specs.declared.said.Said.{Said}
+use Rattle.loop_messages.specs.declared.message.Said.{Said}
 use Rattle.connections.specs.History.{Passed, HistoryView, IsHistory, heard_as, given_as, moment_as, heard_among, given_among, moments_among}
 use Rattle.connections.specs.Connections.{ConnectionsView, bytes_in, bytes_of_connection, WasReplied, IsAnswered, IsConnections}
 use Rattle.connections.proofs.KeepLemmas.{none_keep}

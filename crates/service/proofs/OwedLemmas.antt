@@ -7,7 +7,7 @@ use Rattle.proto.specs.declared.command.Command.{Command}
 use Rattle.session.specs.declared.session.Awaited.{Awaited}
 use Rattle.session.specs.Session.{is_outstanding_as}
 use Rattle.session.specs.declared.session.Ready.{Ready}
-use Rattle.connections.specs.declared.connection.TheConstants.{MOST_UNWRITTEN}
+use Rattle.loop_messages.specs.declared.message.TheConstants.{MOST_UNWRITTEN}
 use Rattle.connections.specs.declared.slots.ConnectionId.{ConnectionId}
 use Rattle.grammar.specs.declared.reader.Dialect.{Dialect}
 use Rattle.connections.specs.Connection.{ConnectionView, new_connection}
@@ -16,7 +16,7 @@ use Rattle.connections.specs.Owed.{HasSameOutstanding, HasCommand, ReadsFurther,
 use Rattle.connections.proofs.SlotLemmas.{set_get, set_other, same_or_not}
 use Rattle.connections.proofs.OwedLemmas.{left_own, written_back, written_others}
 use Rattle.connections.proofs.AtLemmas.{set_same, left_others}
-use Rattle.connections.specs.declared.said.Said.{Said}
+use Rattle.loop_messages.specs.declared.message.Said.{Said}
 use Rattle.connections.specs.Connections.{ConnectionsView}
 use Rattle.ensemble.specs.Ensemble.{EnsembleView}
 use Rattle.service.specs.declared.asking.Asking.{Asking}

@@ -2,11 +2,11 @@
 use Rattle.std.proofs.Common.{◌≡◌, ⊎_elim, ℕ, zero, suc, ◌+◌, ◌≤◌, ◌<◌, Bool, List, [], ◌∷◌, Option, Some, None, refl, sym, ap, ◌∙◌, subst, arith, length, slice_get, slice_set}
 use Rattle.std.specs.Prelude.{◌≢◌}
 use Rattle.connections.proofs.SlotLemmas.{set_get, set_other, same_or_not}
-use Rattle.serving.specs.declared.patience.Patience.{Patience}
-use Rattle.serving.specs.declared.patience.Seen.{Seen}
-use Rattle.serving.specs.declared.patience.Urge.{Urge}
-use Rattle.serving.specs.declared.patience.Urge.TheVariants.{Wait, Again, Suspect}
-use Rattle.serving.specs.Patience.{urge_of, after_tick}
+use Rattle.housekeeping.specs.declared.patience.Patience.{Patience}
+use Rattle.housekeeping.specs.declared.patience.Seen.{Seen}
+use Rattle.housekeeping.specs.declared.patience.Urge.{Urge}
+use Rattle.housekeeping.specs.declared.patience.Urge.TheVariants.{Wait, Again, Suspect}
+use Rattle.housekeeping.specs.Patience.{urge_of, after_tick}
 use Rattle.service.specs.declared.assignment.Outstanding.{Outstanding}
 use Rattle.service.specs.Ticks.{sent_again, after_urge, waited_on, with_patience, urge_in, urge_at, SetsPatienceIn, SetsPatience, AllHaveWaited}
 

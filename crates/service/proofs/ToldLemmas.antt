@@ -8,7 +8,7 @@ use Rattle.proto.specs.declared.reply.Reply as replies
 use Rattle.session.specs.declared.session.Ready.{Ready}
 use Rattle.session.specs.declared.session.Session.{Session}
 use Rattle.connections.specs.declared.slots.ConnectionId.{ConnectionId}
-use Rattle.connections.specs.declared.said.Said.{Said}
+use Rattle.loop_messages.specs.declared.message.Said.{Said}
 use Rattle.connections.specs.Connection.{ConnectionView}
 use Rattle.connections.specs.Connections.{ConnectionsView}
 use Rattle.connections.specs.Slots.{is_of_connection, slot_in, is_here, left_at, HasSameOthers}

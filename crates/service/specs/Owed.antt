@@ -2,7 +2,7 @@
 use Rattle.std.specs.Prelude.{◌≡◌, ◌⊎◌, ℕ, suc, ◌-◌, ◌≤◌, Bool, false, List, [], ◌∷◌, ◌++◌, Option, Some, None, Contains, slice_get, slice_set, if◌then◌else◌}
 use Rattle.proto.specs.declared.command.Command.{Command}
 use Rattle.session.specs.declared.session.Awaited.{Awaited}
-use Rattle.connections.specs.declared.connection.TheConstants.{MOST_UNWRITTEN}
+use Rattle.loop_messages.specs.declared.message.TheConstants.{MOST_UNWRITTEN}
 use Rattle.connections.specs.declared.slots.ConnectionId.{ConnectionId}
 use Rattle.connections.specs.Connection.{ConnectionView}
 use Rattle.connections.specs.Slots.{slot_in, is_here, HasSameOthers}

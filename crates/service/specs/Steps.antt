@@ -3,7 +3,7 @@ use Rattle.std.specs.Prelude.{◌≡◌, ◌⊎◌, ℕ, ◌-◌, ◌≤◌, ◌
 use Rattle.proto.specs.declared.command.Command.{Command}
 use Rattle.connections.specs.declared.connections.CommandNumber.{CommandNumber}
 use Rattle.connections.specs.declared.slots.ConnectionId.{ConnectionId}
-use Rattle.connections.specs.declared.said.Said.{Said}
+use Rattle.loop_messages.specs.declared.message.Said.{Said}
 use Rattle.connections.specs.Connections.{ConnectionsView, AreBefore, AreReplied}
 use Rattle.session.specs.declared.session.Ready.{Ready}
 use Rattle.connections.specs.Owed.{IsTakenAt, HasNoneToTake}

@@ -2,11 +2,11 @@
 use Rattle.std.specs.Prelude.{◌≡◌, ◌≢◌, ℕ, ◌+◌, ◌-◌, ◌*◌, ◌<◌, Bool, true, false, nat_lt, List, Option, Some, None, length, slice_get, slice_set, if◌then◌else◌}
 use Rattle.events.specs.declared.event.Replica.{Replica}
 use Rattle.events.specs.declared.event.Replica.TheVariants.{Executor, Verifier}
-use Rattle.serving.specs.declared.patience.Patience.{Patience}
-use Rattle.serving.specs.declared.patience.Seen.{Seen}
-use Rattle.serving.specs.declared.patience.Urge.{Urge}
-use Rattle.serving.specs.declared.patience.Urge.TheVariants.{Wait, Again, Suspect}
-use Rattle.serving.specs.Patience.{urge_of, after_tick}
+use Rattle.housekeeping.specs.declared.patience.Patience.{Patience}
+use Rattle.housekeeping.specs.declared.patience.Seen.{Seen}
+use Rattle.housekeeping.specs.declared.patience.Urge.{Urge}
+use Rattle.housekeeping.specs.declared.patience.Urge.TheVariants.{Wait, Again, Suspect}
+use Rattle.housekeeping.specs.Patience.{urge_of, after_tick}
 use Rattle.ensemble.specs.Nodes.{NodesView}
 use Rattle.ensemble.specs.Shown.{is_up_at}
 use Rattle.service.specs.declared.assignment.Outstanding.{Outstanding}

@@ -1,7 +1,7 @@
 -- What connections are told when the service works.
 use Rattle.std.specs.Prelude.{◌≡◌, ◌≢◌, ◌⊎◌, ℕ, ◌-◌, ◌^◌, ◌≤◌, ◌<◌, ◌+◌, length, true, false, List, [], ◌∷◌, ◌++◌, Option, Some, Contains}
 use Rattle.connections.specs.declared.slots.ConnectionId.{ConnectionId}
-use Rattle.connections.specs.declared.said.Said.{Said}
+use Rattle.loop_messages.specs.declared.message.Said.{Said}
 use Rattle.connections.specs.Connection.{ConnectionView}
 use Rattle.connections.specs.Slots.{slot_in, is_here}
 use Rattle.connections.specs.Told.{is_outstanding_in, IsToldAt}

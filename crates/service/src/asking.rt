@@ -9,9 +9,10 @@ ghost use Rattle.service.specs.Told.{IsToldIfFailed};
 
 use crate::assignment::Assignment;
 use crate::note::Note;
-use connections::{ConnectionId, Connections, Ready, Said};
+use connections::{ConnectionId, Connections, Ready};
 use ensemble::Ensemble;
 use figures::Asked;
+use loop_messages::Said;
 use std::alloc::Global;
 
 /// What came of it that a command was to be asked.

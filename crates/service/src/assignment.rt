@@ -2,7 +2,7 @@
 
 use crate::note::Note;
 use connections::ConnectionId;
-use serving::Patience;
+use housekeeping::Patience;
 
 /// A command of a connection, as a request of a client proxy.
 #[derive(Clone, Copy)]

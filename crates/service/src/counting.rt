@@ -3,10 +3,10 @@
 use crate::limit::Limit;
 use crate::note::Note;
 use crate::replicas::note_node;
-use connections::Said;
 use ensemble::{Ensemble, Replica, Times};
 use figures::{Figures, one_more};
 use grammar::Conditions;
+use loop_messages::Said;
 use proto::{Fault, Reply};
 
 /// What was counted, whether a command was answered since the clock was last read, and whether more may be stored.

@@ -9,8 +9,9 @@ ghost use Rattle.service.specs.Service.{Hears};
 ghost use Rattle.connections.specs.Told.{IsToldAt};
 
 use crate::note::Waiting;
-use connections::{ConnectionId, Connections, Said};
+use connections::{ConnectionId, Connections};
 use grammar::Conditions;
+use loop_messages::Said;
 use proto::Fault;
 use std::alloc::Global;
 use std::collections::VecDeque;

@@ -11,7 +11,7 @@
 //!     let mut service = Service::reopen(alloc, record, dialect)?;     // another process goes on from it
 //!
 //! It is built on `connections` (what each connection asks and is given) and `ensemble` (the replicas, and the
-//! proxies that ask them), and on `serving` for the patience of a proxy. The layer above uses `Service`, which the
+//! proxies that ask them), and on `housekeeping` for the patience of a proxy. The layer above uses `Service`, which the
 //! event loop drives: connections come, are heard and leave; `work` asks what waits, and gives what was answered.
 #![tactic(auto)]
 
@@ -36,7 +36,7 @@ mod ticking;
 mod working;
 
 pub use assignment::Assignment;
-pub use connections::{Dialect, MOST_SLOTS, MOST_UNWRITTEN, Said};
+pub use connections::{Dialect, MOST_SLOTS};
 pub use ensemble::{Config, Replica};
 pub use figures::Figures;
 pub use incidents::Incidents;

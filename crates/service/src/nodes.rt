@@ -6,7 +6,7 @@ ghost use Rattle.service.specs.Ticks.{pause_after, is_opened, replica_at, NodeTi
 
 use crate::pause::Pause;
 use ensemble::Replica;
-use serving::{Patience, Seen};
+use housekeeping::{Patience, Seen};
 use std::alloc::{AllocError, Global};
 
 /// The pause of each node: executors first, then verifiers. And the patience with which they are asked what nobody waits for.

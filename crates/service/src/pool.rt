@@ -3,11 +3,11 @@
 ghost use Rattle.std.specs.Prelude.{◌≡◌, ◌<◌, ◌-◌, Some, None, IfSome, IfNone, true, false, slice_get, slice_set};
 ghost use Rattle.service.specs.Steps.{NoneWaits, is_request_of, owed_of, TakesOne, TakesWaitAt, SetsWaitAt};
 ghost use Rattle.service.specs.Owed.{AllWait, OneWaits};
-ghost use Rattle.serving.specs.Patience.{after_tick};
+ghost use Rattle.housekeeping.specs.Patience.{after_tick};
 ghost use Rattle.service.specs.Ticks.{sent_again, with_patience, urge_in, urge_at, SetsPatience};
 
 use crate::assignment::Outstanding;
-use serving::{Seen, Urge};
+use housekeeping::{Seen, Urge};
 use std::alloc::{AllocError, Global};
 use std::marker::Model;
 
@@ -167,7 +167,7 @@ fn any_waits(waiting: &Vec<Option<Outstanding>>) -> bool
 
 impl Pool {
     ghost use Rattle.std.specs.Prelude.{◌≡◌, ◌<◌, ◌-◌, Some, true, false, length, slice_get, slice_set, IfOk, IfSome, IfNone};
-    ghost use Rattle.serving.specs.Patience.{after_tick};
+    ghost use Rattle.housekeeping.specs.Patience.{after_tick};
     ghost use Rattle.service.specs.Ticks.{sent_again, urge_at, SetsPatience};
     ghost use Rattle.service.specs.Steps.{KeepsWaits, AddsWait, EndsWait, NoneWaits, TakesWaitAt, SetsWaitAt};
     ghost use Rattle.service.specs.Owed.{IsFreeIn, AllWait, OneWaits};

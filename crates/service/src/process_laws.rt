@@ -11,6 +11,8 @@ use ensemble::a_reopened_ensemble_follows;
 
 /// What always holds of a service, at any moment: of all that was asked and given, also before its process began. The call
 /// does nothing.
+///
+/// No code calls it: it is for readers.
 pub fn a_service_is_a_process(service: &Service)
     ensures { IsProcess service.now }
 {
@@ -19,6 +21,8 @@ pub fn a_service_is_a_process(service: &Service)
 
 /// The service of a process that begins with what was found follows each service of which that was kept. It holds
 /// whatever was found.
+///
+/// No code calls it: it is for readers.
 pub fn a_reopened_service_follows()
     ensures { (found : KeptService) (waiting : List (Option Outstanding)) (pauses : List Pause) → NobodyWaits waiting
         → IsServiceAfter (Some found) (reopened_service found waiting pauses) }

@@ -10,7 +10,7 @@ use crate::service::Service;
 use crate::service_record::ServiceRecord;
 use connections::{Connections, Dialect};
 use ensemble::{Ensemble, ProcessRecord};
-use http_server::Log;
+use ghost_log::GhostLog;
 use proto::Fault;
 use std::alloc::Global;
 use std::collections::VecDeque;
@@ -74,7 +74,7 @@ impl Service {
             suspicions: 0,
             counting: Counting::reopened(),
             refused: 0,
-            assignments: Log::new(),
+            assignments: GhostLog::new(),
         })
     }
 }

@@ -9,10 +9,11 @@ use crate::incidents::Incidents;
 use crate::nodes::Nodes;
 use crate::note::Waiting;
 use crate::pool::Pool;
-use connections::{ConnectionId, Connections, Dialect, Said};
+use connections::{ConnectionId, Connections, Dialect};
 use ensemble::{Config, Ensemble};
 use figures::Figures;
-use http_server::Log;
+use ghost_log::GhostLog;
+use loop_messages::Said;
 use proto::Fault;
 use std::alloc::Global;
 use std::collections::VecDeque;
@@ -32,7 +33,7 @@ pub struct Service {
     /// How often something was left undone here for want of memory.
     pub(crate) refused: u64,
     /// Which command was asked as which request, each with its proxy.
-    pub(crate) assignments: Log<Assignment, u16>,
+    pub(crate) assignments: GhostLog<Assignment, u16>,
 }
 
 impl Model for Service {
@@ -104,7 +105,7 @@ impl Service {
             suspicions: 0,
             counting: Counting::new(members),
             refused: 0,
-            assignments: Log::new(),
+            assignments: GhostLog::new(),
         })
     }
 

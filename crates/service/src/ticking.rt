@@ -10,7 +10,7 @@ use crate::pool::Pool;
 use crate::replicas::note_node;
 use crate::service::Service;
 use ensemble::{Ensemble, Replica};
-use serving::{Seen, Urge};
+use housekeeping::{Seen, Urge};
 use std::alloc::Global;
 
 /// The proxy in this slot asks again.

@@ -16,11 +16,12 @@ use crate::hearing::enqueue;
 use crate::note::{Note, Waiting};
 use crate::pool::Pool;
 use crate::service::Service;
-use connections::{Connections, Said};
+use connections::Connections;
 use ensemble::{Answer, Ensemble};
-use http_server::Log;
+use ghost_log::GhostLog;
+use housekeeping::Patience;
+use loop_messages::Said;
 use proto::Reply;
-use serving::Patience;
 use std::alloc::Global;
 use std::collections::VecDeque;
 use std::rt::Clock;
@@ -139,7 +140,7 @@ fn answer_to(
 #[tactic(auto, using(crate::proofs::KeepLemmas::assigned_more))]
 fn settle(
     pool: &mut Pool,
-    assignments: &mut Log<Assignment, u16>,
+    assignments: &mut GhostLog<Assignment, u16>,
     said: &mut Vec<Said>,
     patience: Patience,
     note: Note,
@@ -250,7 +251,6 @@ impl Service {
             proxy,
             number,
             reply,
-            quiet: _,
         } = answer;
         let Some(outstanding) = self.pool.answered(proxy, number) else {
             return;
@@ -281,6 +281,7 @@ impl Service {
         ensures counted { self.old.replicas.refused ≤ self.new.replicas.refused }
         ensures ensemble { self.new.replicas.ensemble ≡ self.old.replicas.ensemble }
     {
+        // In which order makes no difference: each is for another proxy, and so for another connection.
         while let Some(answer) = answers.pop() {
             self.answer(alloc, answer, said);
         }

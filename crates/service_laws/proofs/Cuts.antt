@@ -17,10 +17,10 @@ use Rattle.grammar.specs.Asks.{IsAskedIn}
 use Rattle.grammar.proofs.AskLemmas.{asked_stays, same_asked_in, shown_imply}
 use Rattle.events.specs.declared.event.Event.{Event}
 use Rattle.run_laws.specs.Run.{Executed}
-use Rattle.server_laws.specs.Laws.{WorldsAreOfOneServer}
-use Rattle.server_laws.specs.InTime.{WasCut, WorldsAreInTime}
-use Rattle.server_laws.specs.Run.{IsRun}
-use Rattle.server_laws.specs.Saved.{IsMet}
+use Rattle.one_server_laws.specs.Laws.{WorldsAreOfOneServer}
+use Rattle.one_server_laws.specs.InTime.{WasCut, WorldsAreInTime}
+use Rattle.one_server_laws.specs.Run.{IsRun}
+use Rattle.one_server_laws.specs.Saved.{IsMet}
 use Rattle.connections.specs.Connections.{bytes_in, bytes_of_connection, IsConnections}
 use Rattle.connections.specs.History.{Passed, IsHistory, heard_among, given_among, moments_among}
 use Rattle.connections.proofs.HistoryLemmas.{heard_both}

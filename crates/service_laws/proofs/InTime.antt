@@ -20,8 +20,8 @@ use Rattle.memcached_spec.specs.Server.{Line, Made, Tick, Do, made_for}
 use Rattle.run_laws.specs.Run.{Executed, IsOver, IsRunFrom}
 use Rattle.run_laws.proofs.Elements.{in_head, in_tail, in_none, first_or_other}
 use Rattle.run_laws.proofs.Replies.{runs_next}
-use Rattle.server_laws.specs.Saved.{IsMet}
-use Rattle.server_laws.specs.InTime.{WasCut}
+use Rattle.one_server_laws.specs.Saved.{IsMet}
+use Rattle.one_server_laws.specs.InTime.{WasCut}
 use Rattle.connections.specs.Connections.{bytes_of_connection, IsConnections}
 use Rattle.connections.specs.History.{heard_among, moments_among}
 use Rattle.connections.proofs.TakeLemmas.{contains_at}

@@ -12,13 +12,12 @@ use Rattle.memcached_spec.specs.Fed.{fed_to}
 use Rattle.memcached_spec.specs.Server.{Line}
 use Rattle.events.specs.declared.event.Event.{Event}
 use Rattle.events.specs.Config.{ConfigView}
-use Rattle.worlds.specs.World.{WorldView, EndsWith, last_world}
-use Rattle.worlds.specs.Laws.{IsReached}
+use Rattle.worlds.specs.World.{WorldView, EndsWith, last_world, IsReached}
 use Rattle.run_laws.specs.Run.{Executed, IsOver, IsRunFrom, Extends}
 use Rattle.run_laws.proofs.Replies.{runs_next}
-use Rattle.server_laws.specs.Saved.{IsMet, DigestsAreDistinct}
-use Rattle.server_laws.specs.Run.{IsRun}
-use Rattle.server_laws.specs.InTime.{IsRunInTime, RunsGrowInTime, IsOneServerInTime, WorldsAreInTime}
+use Rattle.one_server_laws.specs.Saved.{IsMet, DigestsAreDistinct}
+use Rattle.one_server_laws.specs.Run.{IsRun}
+use Rattle.one_server_laws.specs.InTime.{IsRunInTime, RunsGrowInTime, IsOneServerInTime, WorldsAreInTime}
 use Rattle.connections.proofs.TakeLemmas.{contains_at}
 use Rattle.service.specs.declared.assignment.Assignment.{Assignment}
 use Rattle.linear_laws.proofs.Rounds.{RoundMade, runner_in}

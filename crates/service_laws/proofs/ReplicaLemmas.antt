@@ -2,10 +2,10 @@
 use Rattle.std.proofs.Common.{◌≡◌, ◌<◌, ◌≤◌, List, length, subst}
 use Rattle.run_laws.specs.Run.{Executed}
 use Rattle.worlds.specs.World.{WorldView}
-use Rattle.server_laws.specs.HeldLaws.{lost_executors}
-use Rattle.server_laws.specs.Saved.{IsMet}
-use Rattle.server_laws.specs.Run.{IsRun, KeepsTheEnd}
-use Rattle.server_laws.specs.Laws.{ExecutorsKeepTheRun}
+use Rattle.one_server_laws.specs.HeldLaws.{lost_executors}
+use Rattle.one_server_laws.specs.Saved.{IsMet}
+use Rattle.one_server_laws.specs.Run.{IsRun, KeepsTheEnd}
+use Rattle.one_server_laws.specs.Laws.{ExecutorsKeepTheRun}
 use Rattle.service.specs.Service.{ServiceView, HasEnsemble}
 use Rattle.service_laws.specs.Replicas.{replicas_in, LastStateIsKept}
 

@@ -5,11 +5,10 @@ use Rattle.states.specs.State.{StateView}
 use Rattle.run_laws.specs.Run.{Executed}
 use Rattle.events.specs.declared.event.Event.{Event}
 use Rattle.events.specs.Config.{ConfigView}
-use Rattle.worlds.specs.World.{WorldView, EndsWith, last_world}
-use Rattle.worlds.specs.Laws.{IsReached}
-use Rattle.server_laws.specs.Saved.{IsMet, DigestsAreDistinct}
-use Rattle.server_laws.specs.Run.{IsRun, RunsGrow, IsOneServer}
-use Rattle.server_laws.specs.Laws.{WorldsAreOfOneServer}
+use Rattle.worlds.specs.World.{WorldView, EndsWith, last_world, IsReached}
+use Rattle.one_server_laws.specs.Saved.{IsMet, DigestsAreDistinct}
+use Rattle.one_server_laws.specs.Run.{IsRun, RunsGrow, IsOneServer}
+use Rattle.one_server_laws.specs.Laws.{WorldsAreOfOneServer}
 
 last_run : (met : StateView → Type 0) (past : List Event) (run : List Executed) (w : WorldView) (es : List Event) (xs : List WorldView) → IsRun met past w run → RunsGrow met past run es xs
     → (later : List Executed) × IsRun met (past ++ es) (last_world w xs) later

@@ -12,9 +12,9 @@ use Rattle.sessions.specs.declared.request.Request.{Request}
 use Rattle.executor.specs.declared.answered.Answered.{Answered}
 use Rattle.executor.proofs.RoundLemmas.{get_map}
 use Rattle.run_laws.specs.Run.{Executed}
-use Rattle.server_laws.specs.Saved.{IsMet, DigestsAreDistinct}
-use Rattle.server_laws.specs.Run.{IsRun}
-use Rattle.server_laws.specs.Laws.{WorldsAreOfOneServer}
+use Rattle.one_server_laws.specs.Saved.{IsMet, DigestsAreDistinct}
+use Rattle.one_server_laws.specs.Run.{IsRun}
+use Rattle.one_server_laws.specs.Laws.{WorldsAreOfOneServer}
 use Rattle.connections.specs.declared.connections.CommandNumber.{CommandNumber}
 use Rattle.connections.specs.Connections.{bytes_of_connection, WasReplied, IsConnections}
 use Rattle.service.specs.declared.assignment.Assignment.{Assignment}

@@ -27,7 +27,7 @@ use Rattle.worlds.specs.World.{WorldView}
 use Rattle.run_laws.specs.Run.{Executed, IsOver, IsRunFrom}
 use Rattle.run_laws.proofs.Elements.{in_head, in_tail, in_none, first_or_other}
 use Rattle.run_laws.proofs.Replies.{runs_next}
-use Rattle.server_laws.specs.Run.{IsRun}
+use Rattle.one_server_laws.specs.Run.{IsRun}
 use Rattle.connections.specs.Connections.{bytes_of_connection}
 use Rattle.connections.proofs.TakeLemmas.{contains_at}
 use Rattle.service.specs.declared.assignment.Assignment.{Assignment}

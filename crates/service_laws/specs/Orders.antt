@@ -15,7 +15,7 @@ use Rattle.grammar.specs.declared.reader.Dialect.{Dialect}
 use Rattle.grammar.specs.Orders.{IsExecutedFrom, IsAnsweredFrom}
 use Rattle.connections.specs.Connections.{bytes_of_connection}
 use Rattle.connections.specs.History.{Passed, heard_among, given_among, moments_among}
-use Rattle.server_laws.specs.Saved.{DigestsAreDistinct}
+use Rattle.one_server_laws.specs.Saved.{DigestsAreDistinct}
 use Rattle.service.specs.declared.assignment.Assignment.{Assignment}
 use Rattle.service.specs.Service.{ServiceView, HasEnsemble}
 use Rattle.service_laws.specs.Serving.{IsServing}

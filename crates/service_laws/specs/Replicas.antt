@@ -2,10 +2,10 @@
 use Rattle.std.specs.Prelude.{◌<◌, ◌≤◌, IsTrue, List, length, map}
 use Rattle.run_laws.specs.Run.{Executed}
 use Rattle.worlds.specs.World.{WorldView}
-use Rattle.worlds.specs.Laws.{ChosenIsKept, trims_none}
-use Rattle.server_laws.specs.HeldLaws.{lost_executors}
-use Rattle.server_laws.specs.Saved.{IsMet, DigestsAreDistinct}
-use Rattle.server_laws.specs.Run.{IsRun, KeepsTheEnd}
+use Rattle.world_laws.specs.Laws.{ChosenIsKept, trims_none}
+use Rattle.one_server_laws.specs.HeldLaws.{lost_executors}
+use Rattle.one_server_laws.specs.Saved.{IsMet, DigestsAreDistinct}
+use Rattle.one_server_laws.specs.Run.{IsRun, KeepsTheEnd}
 use Rattle.service.specs.Service.{ServiceView, HasEnsemble}
 
 -- the executors and verifiers that it has, with all letters that were ever sent in the world that explains it

@@ -9,9 +9,9 @@ use Rattle.grammar.specs.Asks.{TextsShown, BeginsIn, IsAskedIn}
 use Rattle.memcached_spec.specs.Fed.{fed_to}
 use Rattle.events.specs.declared.event.Event.{Event}
 use Rattle.run_laws.specs.Run.{Executed}
-use Rattle.server_laws.specs.Saved.{IsMet, DigestsAreDistinct}
-use Rattle.server_laws.specs.Served.{WasAnswered}
-use Rattle.server_laws.specs.Run.{IsRun}
+use Rattle.one_server_laws.specs.Saved.{IsMet, DigestsAreDistinct}
+use Rattle.one_server_laws.specs.Served.{WasAnswered}
+use Rattle.one_server_laws.specs.Run.{IsRun}
 use Rattle.connections.specs.Connections.{bytes_of_connection}
 use Rattle.service.specs.declared.assignment.Assignment.{Assignment}
 use Rattle.service.specs.Service.{ServiceView, HasEnsemble}

@@ -3,7 +3,7 @@
 ghost use Rattle.service.specs.Process.{found_by, HoldsAfter};
 ghost use Rattle.service_laws.specs.Serving.{IsServing};
 
-use server_laws::worlds_are_of_one_server;
+use one_server_laws::worlds_are_of_one_server;
 use service::Service;
 
 /// What a service was given and gave so far, from its first connection on, is what one server would have been given

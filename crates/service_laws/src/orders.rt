@@ -3,7 +3,7 @@
 ghost use Rattle.service.specs.Process.{found_by, HoldsAfter};
 ghost use Rattle.service_laws.specs.Orders.{IsLinearizableService};
 
-use server_laws::{worlds_are_in_time, worlds_are_of_one_server};
+use one_server_laws::{worlds_are_in_time, worlds_are_of_one_server};
 use service::Service;
 
 /// The history of all connections, here or gone, is linearizable, if digests tell the states of the executors apart.

@@ -5,12 +5,14 @@ ghost use Rattle.service.specs.Service.{ServiceView};
 ghost use Rattle.service.specs.Process.{AreSuccessive, AreReopened, found_by, next_found, services_after, services_with};
 ghost use Rattle.service_laws.specs.Orders.{IsLinearizableService};
 
-use server_laws::{worlds_are_in_time, worlds_are_of_one_server};
+use one_server_laws::{worlds_are_in_time, worlds_are_of_one_server};
 use service::{Service, a_service_follows_others, services_follow_each_other};
 
 /// What all connections asked and were given in processes one after the other is linearizable as one history, if digests
 /// tell the states of the executors apart. Each process but the first began with what was kept of the one before it; its
 /// view is that of the moment of which that was kept. A command that had no reply then may or may not have happened.
+///
+/// No code calls it: it is for readers.
 pub fn processes_are_linearizable()
     ensures { (v : ServiceView) (later : List ServiceView) → AreSuccessive None (v ∷ later) → IsLinearizableService (services_after v later) }
 {

@@ -3,11 +3,11 @@
 ghost use Rattle.service.specs.Service.{HasEnsemble};
 ghost use Rattle.service.specs.Process.{found_by, HoldsAfter};
 ghost use Rattle.service_laws.specs.Replicas.{InEach, WholeIsKept, LastStateIsKept};
-ghost use Rattle.worlds.specs.Laws.{OneIsChosen, ChosenIsBacked, ChosenStands};
+ghost use Rattle.world_laws.specs.Laws.{OneIsChosen, ChosenIsBacked, ChosenStands};
 
-use server_laws::executors_keep_the_run;
+use one_server_laws::executors_keep_the_run;
 use service::Service;
-use worlds::{
+use world_laws::{
     chosen_is_backed_in_worlds, chosen_is_kept_in_worlds, chosen_stands_in_worlds,
     one_is_chosen_in_worlds,
 };

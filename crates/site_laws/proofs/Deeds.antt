@@ -13,8 +13,8 @@ use Rattle.exec_lines.specs.declared.body.Body.{Body}
 use Rattle.exec_lines.specs.declared.input.Input.TheVariants as executor_input
 use Rattle.verifier.specs.declared.input.Input.TheVariants as verifier_input
 use Rattle.verifier.specs.Verifier.{VerifierView}
-use Rattle.worlds.specs.Slot.{Slot}
-use Rattle.worlds.specs.Runs.{RunIsSteps}
+use Rattle.slots.specs.Slot.{Slot}
+use Rattle.slots.specs.Runs.{RunIsSteps}
 use Rattle.proxies.proofs.ProxyLemmas.{ask_is_fed, answer_is_replied, again_is_asked}
 use Rattle.hosts.specs.Host.{HostView, LettersAreAmong, HostSettles, HostReopens, HostCollects}
 use Rattle.ensemble.specs.declared.answer.Answer.{Answer}

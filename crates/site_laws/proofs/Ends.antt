@@ -6,7 +6,7 @@ use Rattle.decrees.specs.declared.node.Letter.{Letter}
 use Rattle.exec_lines.specs.declared.body.Body.{Body}
 use Rattle.events.specs.declared.event.Event.TheVariants.{Crash}
 use Rattle.events.specs.declared.event.Replica.TheVariants as replica
-use Rattle.worlds.specs.Slots.{executor_kept, crashed_slot}
+use Rattle.slots.specs.Slots.{executor_kept, crashed_slot}
 use Rattle.worlds.specs.World.{WorldView, WorldNext, changed_at, with_executor}
 use Rattle.hosts.specs.Host.{HostView}
 use Rattle.ensemble.specs.Nodes.{NodesView, HostMoves}

@@ -4,11 +4,11 @@ use Rattle.std.specs.declared.alloc.Global.{Global}
 use Rattle.keeper.specs.Kept.{Kept}
 use Rattle.verifier.specs.Verifier.{VerifierView}
 use Rattle.events.specs.Config.{ConfigView}
-use Rattle.worlds.specs.Slot.{Slot}
-use Rattle.worlds.specs.declared.slot.Slot.TheVariants.{Up, Down, Gone}
-use Rattle.worlds.specs.Slots.{executor_kept, verifier_kept, crashed_slot}
-use Rattle.worlds.specs.Laws.{kept_at, is_gone}
-use Rattle.worlds.specs.Runs.{RunIsSteps}
+use Rattle.slots.specs.Slot.{Slot}
+use Rattle.slots.specs.declared.slot.Slot.TheVariants.{Up, Down, Gone}
+use Rattle.slots.specs.Slots.{executor_kept, verifier_kept, crashed_slot}
+use Rattle.slots.specs.Status.{kept_at, is_gone}
+use Rattle.slots.specs.Runs.{RunIsSteps}
 use Rattle.hosts.specs.Host.{HostView}
 use Rattle.ensemble.specs.Nodes.{NodesView, AtHostIn, HostMoves, AtVerifierIn, VerifierMoves}
 use Rattle.ensemble.specs.Kept.{kept_of_host, kept_of_verifier, down_host, down_verifier}

@@ -13,9 +13,9 @@ use Rattle.exec_lines.specs.declared.input.Input.TheVariants as executor_input
 use Rattle.verifier.specs.declared.input.Input.TheVariants as verifier_input
 use Rattle.verifier.specs.Verifier.{VerifierView}
 use Rattle.events.specs.Config.{ConfigView}
-use Rattle.worlds.specs.Slot.{Slot}
-use Rattle.worlds.specs.declared.slot.Slot.TheVariants.{Down}
-use Rattle.worlds.specs.World.{nothing_kept}
+use Rattle.slots.specs.Slot.{Slot}
+use Rattle.slots.specs.declared.slot.Slot.TheVariants.{Down}
+use Rattle.slots.specs.Slots.{nothing_kept}
 use Rattle.hosts.specs.Host.{HostView, HostTakes, HostSettles, HostReopens, HostCollects}
 use Rattle.ensemble.specs.declared.answer.Answer.{Answer}
 use Rattle.ensemble.specs.Nodes.{NodesView, AtHostIn, HostMoves, HostAdvances, AtVerifierIn, VerifierMoves, VerifierGets, VerifierOpens, VerifierTrims, VerifiersReached, ProxyReached, NodesReached, IsPosted, AsksAgain}

@@ -15,8 +15,8 @@ use Rattle.exec_lines.specs.declared.body.Body.TheVariants as body
 use Rattle.client.specs.Talk.{wants}
 use Rattle.verifier.specs.declared.input.Input.TheVariants as verifier_input
 use Rattle.verifier.specs.Verifier.{VerifierView}
-use Rattle.worlds.specs.Slot.{Slot}
-use Rattle.worlds.specs.World.{as_sent}
+use Rattle.slots.specs.Slot.{Slot}
+use Rattle.slots.specs.Sending.{as_sent}
 use Rattle.proxies.specs.Proxy.{ProxyView, asks, answers}
 use Rattle.hosts.specs.Host.{HostView, LettersAreAmong, HostTakes}
 use Rattle.ensemble.specs.declared.answer.Answer.{Answer}
@@ -182,7 +182,7 @@ module _ (home : ℕ → ℕ) where
       let all : List ProxyView = slice_set whole.proxies r.index q in
       record {
         after = record whole { proxies = all };
-        does = (all, inl (record { index = r.index; at = r.at; proxy = r.proxy; there = p.proxies r.index at ∙ r.there; quiet = r.quiet; was_asked = r.was_asked; after = refl; is = r.is }), refl);
+        does = (all, inl (record { index = r.index; at = r.at; proxy = r.proxy; there = p.proxies r.index at ∙ r.there; was_asked = r.was_asked; after = refl; is = r.is }), refl);
         part = subst (λ (ps : List ProxyView). IsPart home (record whole { proxies = all }) m (record n { proxies = ps })) (sym r.after) (set_part whole n m r.index r.proxy q at p r.there);
         others = λ k other x s. set_others whole m r.index q at k other x s;
         grows = λ l c. c;

@@ -11,11 +11,10 @@ use Rattle.events.specs.declared.event.Event.TheVariants.{Cut, Restart}
 use Rattle.events.specs.declared.event.Replica.{Replica}
 use Rattle.events.specs.declared.event.Replica.TheVariants.{Executor, Verifier}
 use Rattle.events.specs.Config.{ConfigView}
-use Rattle.worlds.specs.Slot.{Slot}
-use Rattle.worlds.specs.declared.slot.Slot.TheVariants.{Down}
-use Rattle.worlds.specs.Slots.{StopsIn}
-use Rattle.worlds.specs.World.{WorldView, WorldNext, ExecutorAtOpened, VerifierAtOpened, nothing_kept, unopened_world, restarts_below}
-use Rattle.worlds.specs.Laws.{IsReached}
+use Rattle.slots.specs.Slot.{Slot}
+use Rattle.slots.specs.declared.slot.Slot.TheVariants.{Down}
+use Rattle.slots.specs.Slots.{StopsIn, nothing_kept}
+use Rattle.worlds.specs.World.{WorldView, WorldNext, ExecutorAtOpened, VerifierAtOpened, unopened_world, restarts_below, IsReached}
 use Rattle.worlds.proofs.LeadLemmas.{LeadsTo, leads_nowhere, leads_append, leads_on}
 use Rattle.hosts.specs.Host.{HostView}
 use Rattle.ensemble.specs.declared.noted.Noted.TheVariants as noted
@@ -37,7 +36,7 @@ map_replicate {X} {Y} f (suc n) x = ap (λ (ys : List Y). f x ∷ ys) (map_repli
 
 -- a replica whose opening fails stays as it is
 stays_down : (after : Option (List ℕ)) → StopsIn nothing_kept after nothing_kept
-stays_down after = record { record_is = inl refl; counted = omega arith; untried = λ same. refl; spent = λ less. absurd (omega (arith, less)) }
+stays_down after = record { record_is = inl refl; failures = record { counted = omega arith; untried = λ same. refl; spent = λ less. absurd (omega (arith, less)) } }
 
 executor_stays : (c : ConfigView) (i : ℕ) → WorldNext (unopened_world c) (Restart (Executor i)) (unopened_world c)
 executor_stays c i = by (slice_get (unopened_world c).executors i) refl

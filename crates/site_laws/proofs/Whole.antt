@@ -2,7 +2,7 @@
 use Rattle.std.proofs.Common.{ℕ, List, [], refl, sym, subst, None}
 use Rattle.std.specs.declared.alloc.Global.{Global}
 use Rattle.events.specs.Config.{ConfigView}
-use Rattle.worlds.specs.Runs.{RunIsSteps}
+use Rattle.slots.specs.Runs.{RunIsSteps}
 use Rattle.ensemble.proofs.Lists.{in_none}
 use Rattle.site_laws.specs.Orders.{AreAllowed, DoesAll}
 use Rattle.site_laws.specs.Site.{Deed, Does, HadLeft, shown_by, WentBefore, IsSite, unopened_nodes, SiteIsEnsemble, SiteIsShown}

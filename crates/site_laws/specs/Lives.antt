@@ -4,8 +4,8 @@ use Rattle.std.specs.Coded.{Coded, code_by, coded×, coded_ℕ, coded_bool, code
 use Rattle.keeper.specs.Kept.{Kept}
 use Rattle.verifier.specs.Verifier.{VerifierView}
 use Rattle.events.specs.Config.{ConfigView}
-use Rattle.worlds.specs.Slot.{Slot}
-use Rattle.worlds.specs.Laws.{is_gone}
+use Rattle.slots.specs.Slot.{Slot}
+use Rattle.slots.specs.Status.{is_gone}
 use Rattle.proxies.specs.Proxy.{ProxyView}
 use Rattle.hosts.specs.Host.{HostView}
 use Rattle.ensemble.specs.Nodes.{NodesView}

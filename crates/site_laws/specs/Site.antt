@@ -10,9 +10,8 @@ use Rattle.exec_lines.specs.declared.body.Body.{Body}
 use Rattle.exec_lines.specs.declared.input.Input.TheVariants as executor_input
 use Rattle.verifier.specs.declared.input.Input.TheVariants as verifier_input
 use Rattle.events.specs.Config.{ConfigView}
-use Rattle.worlds.specs.declared.slot.Slot.TheVariants.{Down}
-use Rattle.worlds.specs.Slots.{executor_kept, crashed_slot}
-use Rattle.worlds.specs.World.{nothing_kept}
+use Rattle.slots.specs.declared.slot.Slot.TheVariants.{Down}
+use Rattle.slots.specs.Slots.{executor_kept, crashed_slot, nothing_kept}
 use Rattle.memcached_spec.specs.Asked.{HasText}
 use Rattle.hosts.specs.Host.{HostView, LettersAreAmong, HostSettles, HostRuns, HostReopens, HostCollects}
 use Rattle.ensemble.specs.declared.answer.Answer.{Answer}

@@ -2,8 +2,8 @@
 
 ghost use Rattle.site_laws.specs.Site.{SiteIsEnsemble, SiteIsShown};
 
+use slots::a_run_is_steps;
 use std::alloc::Global;
-use worlds::a_run_is_steps;
 
 /// Whatever the members of a site did, each by itself: in any order of all that, if each letter left before it came,
 /// they are parts of one ensemble. Of what they did, an order of what they show is enough: letters, requests, answers

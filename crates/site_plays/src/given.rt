@@ -3,8 +3,8 @@
 ghost use Rattle.std.specs.Prelude.{◌<◌};
 
 use clap::{Arg, ArgAction, ArgMatches, Command};
+use command_line::WordsFault;
 use std::alloc::Global;
-use words::WordsFault;
 
 /// A fault that is planted, which a play has to find.
 #[derive(Clone, Copy, PartialEq, Eq)]

@@ -52,11 +52,11 @@ mod wrong;
 use crate::given::{Given, read_words};
 use crate::playing::{Counts, Played, play};
 use crate::schedules::Outcome;
+use command_line::{WordsFault, words_of};
 use std::io;
 use std::process::ExitCode;
 use std::sync::Wait;
 use std::thread::Threads;
-use words::{WordsFault, words_of};
 
 const WRONG: u8 = 1;
 

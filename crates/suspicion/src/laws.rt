@@ -8,6 +8,8 @@ ghost use Rattle.suspicion.specs.Run.{KnowsNoMore, SuspectsNever};
 
 /// After a suspicion, the ten ticks that follow bring no other one, unless a decree was obeyed. This is of any member whose
 /// wait begins anew, and whose patience was doubled: so it is after a suspicion.
+///
+/// No code calls it: it is for readers.
 pub fn two_are_a_second_apart()
     ensures { (u : ℕ) (s : Suspicion) (looks : List Observed) → s.quiet ≡ 0 → 1 < s.factor → KnowsNoMore s.known looks → length looks ≤ 2 * LEAST_PATIENCE → SuspectsNever u s looks }
 {}

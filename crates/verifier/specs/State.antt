@@ -12,6 +12,7 @@ use Rattle.decrees.specs.Votes.{Vote}
 use Rattle.view_change.specs.declared.promises.Promise.{Promise}
 use Rattle.view_change.specs.Promises.{promises_with}
 use Rattle.verifier.specs.declared.tally.Tallied.{Tallied}
+use Rattle.verifier.specs.declared.outcome.Outcome.{Outcome}
 use Rattle.decrees.specs.declared.start.Start.{Start}
 use Rattle.decrees.specs.Start.{first_start, stands_from, decree_after}
 
@@ -37,6 +38,10 @@ pub record OutcomeView : Type 0 where
   pub state : VerifierState
   pub saves : Bool
   pub letters : List (Letter Ballot)
+
+-- its state after a step, and what the step leaves to be done
+abbrev pub verifier_left : VerifierState → Outcome → OutcomeView
+verifier_left s outcome = record { state = s; saves = outcome.saves; letters = outcome.letters.items }
 
 -- how many decrees it knows
 abbrev pub known : VerifierState → ℕ

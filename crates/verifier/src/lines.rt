@@ -19,9 +19,10 @@ use token::Token;
 use view_change::Promise;
 
 impl State {
+    ghost use Rattle.verifier.specs.State.{verifier_left};
     /// A letter of one decree or question, and nothing to save.
     fn says(&self, alloc: Global, id: u8, to: Node, body: Ballot) -> Result<Outcome, AllocError>
-        ensures { IfOk result (λ outcome. record { state = self.now; saves = outcome.saves; letters = outcome.letters.items } ≡ says id self.now to body) }
+        ensures { IfOk result (λ outcome. verifier_left self.now outcome ≡ says id self.now to body) }
     {
         let letters = one(alloc, id, to, body)?;
         Ok(Outcome {
@@ -49,7 +50,7 @@ impl State {
         token: Token,
     ) -> Result<Outcome, AllocError>
         requires { u < 4 }
-        ensures done { IfOk result (λ outcome. record { state = self.new; saves = outcome.saves; letters = outcome.letters.items } ≡ on_token u id self.old key.executor key.epoch key.n (record { 0 = key.previous }) token) }
+        ensures done { IfOk result (λ outcome. verifier_left self.new outcome ≡ on_token u id self.old key.executor key.epoch key.n (record { 0 = key.previous }) token) }
         ensures fits_none { IsTrue (not (is_open (stands self.old) key)) → IsOk result }
     {
         if !self.is_open(&key) {
@@ -67,7 +68,7 @@ impl State {
         from: u8,
         view: u64,
     ) -> Result<Outcome, AllocError>
-        ensures done { IfOk result (λ outcome. record { state = self.new; saves = outcome.saves; letters = outcome.letters.items } ≡ on_change id self.old from view) }
+        ensures done { IfOk result (λ outcome. verifier_left self.new outcome ≡ on_change id self.old from view) }
         ensures fits_none { view < self.old.view → IsOk result }
     {
         if view < self.view {
@@ -110,7 +111,7 @@ impl State {
         promise: Promise,
     ) -> Result<Outcome, AllocError>
         requires { u < 4 }
-        ensures done { IfOk result (λ outcome. record { state = self.new; saves = outcome.saves; letters = outcome.letters.items } ≡ on_promise u id self.old promise.from view promise.known promise.accepted) }
+        ensures done { IfOk result (λ outcome. verifier_left self.new outcome ≡ on_promise u id self.old promise.from view promise.known promise.accepted) }
         ensures fits_none { IsTrue (not (is_awaited self.old promise.from view)) → IsOk result }
     {
         if !self.leads || view != self.view || self.promises.has(promise.from) {
@@ -130,7 +131,7 @@ impl State {
 
     /// A letter of what stands after all that it knows.
     fn start_told(&self, alloc: Global, id: u8, to: Node) -> Result<Outcome, AllocError>
-        ensures { IfOk result (λ outcome. record { state = self.now; saves = outcome.saves; letters = outcome.letters.items } ≡ says id self.now to (Stands (known self.now) (stands self.now))) }
+        ensures { IfOk result (λ outcome. verifier_left self.now outcome ≡ says id self.now to (Stands (known self.now) (stands self.now))) }
     {
         let place = self.log.known();
         let standing = self.log.standing();
@@ -163,7 +164,7 @@ impl State {
         decree: Decree,
     ) -> Result<Outcome, AllocError>
         requires { u < 4 }
-        ensures done { IfOk result (λ outcome. record { state = self.new; saves = outcome.saves; letters = outcome.letters.items } ≡ on_accept u id self.old from view place decree) }
+        ensures done { IfOk result (λ outcome. verifier_left self.new outcome ≡ on_accept u id self.old from view place decree) }
         ensures fits_none { IsTrue (not (is_acceptable self.old view place decree)) → IsOk result }
     {
         let next = self.next_place();
@@ -215,7 +216,7 @@ impl State {
     ) -> Result<Outcome, Fault>
         requires few { u < 4 }
         requires next { IsTrue (may_follow (stands self.old) decree) }
-        ensures done { IfOk result (λ outcome. record { state = self.new; saves = outcome.saves; letters = outcome.letters.items } ≡ try_to_propose u id (learn self.old decree) true (all_others u id (Decided place decree) ++ all_executors u id (Decided place decree))) }
+        ensures done { IfOk result (λ outcome. verifier_left self.new outcome ≡ try_to_propose u id (learn self.old decree) true (all_others u id (Decided place decree) ++ all_executors u id (Decided place decree))) }
         ensures err { IfErr result (λ fault. (fault ≡ Fault.NoMemory) ⊎ ((fault ≡ Fault.Stopped) × (2 ^ 64 ≤ next_place (learn self.old decree)))) }
     {
         self.learn(decree)?;
@@ -234,7 +235,7 @@ impl State {
         accepted: Tallied,
     ) -> Result<Outcome, Fault>
         requires { u < 4 }
-        ensures done { IfOk result (λ outcome. record { state = self.new; saves = outcome.saves; letters = outcome.letters.items } ≡ on_accepted u id self.old accepted.from accepted.view place accepted.decree) }
+        ensures done { IfOk result (λ outcome. verifier_left self.new outcome ≡ on_accepted u id self.old accepted.from accepted.view place accepted.decree) }
         ensures fits_none { IsTrue (not (is_fitting self.old place accepted.decree)) → IsOk result }
         ensures err { IfErr result (λ fault. (fault ≡ Fault.NoMemory) ⊎ ((fault ≡ Fault.Stopped) × (2 ^ 64 ≤ next_place (on_accepted u id self.old accepted.from accepted.view place accepted.decree).state))) }
     {
@@ -260,7 +261,7 @@ impl State {
         decree: Decree,
     ) -> Result<Outcome, Fault>
         requires { u < 4 }
-        ensures done { IfOk result (λ outcome. record { state = self.new; saves = outcome.saves; letters = outcome.letters.items } ≡ on_decided u id self.old from place decree) }
+        ensures done { IfOk result (λ outcome. verifier_left self.new outcome ≡ on_decided u id self.old from place decree) }
         ensures fits_none { IsTrue (not (is_news self.old place decree)) → IsOk result }
         ensures err { IfErr result (λ fault. (fault ≡ Fault.NoMemory) ⊎ ((fault ≡ Fault.Stopped) × (2 ^ 64 ≤ next_place (on_decided u id self.old from place decree).state))) }
     {
@@ -304,7 +305,7 @@ impl State {
         from: Node,
         place: u64,
     ) -> Result<Outcome, AllocError>
-        ensures done { IfOk result (λ outcome. record { state = self.now; saves = outcome.saves; letters = outcome.letters.items } ≡ on_ask id self.now from place) }
+        ensures done { IfOk result (λ outcome. verifier_left self.now outcome ≡ on_ask id self.now from place) }
         ensures fits_none { place ≡ 0 → IsOk result }
     {
         if place == 0 {
@@ -322,7 +323,7 @@ impl State {
 
     /// The decrees up to a place may be forgotten.
     pub fn on_trim(&mut self, alloc: Global, place: u64) -> Result<Outcome, AllocError>
-        ensures done { IfOk result (λ outcome. record { state = self.new; saves = outcome.saves; letters = outcome.letters.items } ≡ on_trim self.old place) }
+        ensures done { IfOk result (λ outcome. verifier_left self.new outcome ≡ on_trim self.old place) }
         ensures fits_none { IsTrue (not (may_trim self.old place)) → IsOk result }
     {
         if self.is_forgotten(place) || self.known() < place {
@@ -345,7 +346,7 @@ impl State {
         start: Start,
     ) -> Result<Outcome, Fault>
         requires { u < 4 }
-        ensures done { IfOk result (λ outcome. record { state = self.new; saves = outcome.saves; letters = outcome.letters.items } ≡ verifier_on_stands u id self.old start.place start.standing) }
+        ensures done { IfOk result (λ outcome. verifier_left self.new outcome ≡ verifier_on_stands u id self.old start.place start.standing) }
         ensures fits_none { IsTrue (not (is_ahead self.old start.place start.standing)) → IsOk result }
         ensures err { IfErr result (λ fault. (fault ≡ Fault.NoMemory) ⊎ ((fault ≡ Fault.Stopped) × (2 ^ 64 ≤ next_place (verifier_on_stands u id self.old start.place start.standing).state))) }
     {

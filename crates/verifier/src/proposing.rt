@@ -14,6 +14,7 @@ use std::alloc::{AllocError, Global};
 use view_change::{Choice, Promises};
 
 impl State {
+    ghost use Rattle.verifier.specs.State.{verifier_left};
     /// What it may propose for the next place.
     fn proposal(&self, u: u8) -> Option<Decree>
         requires { u < 4 }
@@ -55,7 +56,7 @@ impl State {
         first: Vec<Letter<Ballot>>,
     ) -> Result<Outcome, AllocError>
         requires { u < 4 }
-        ensures { IfOk result (λ outcome. record { state = self.new; saves = outcome.saves; letters = outcome.letters.items } ≡ try_to_propose u id self.old saves first.items) }
+        ensures { IfOk result (λ outcome. verifier_left self.new outcome ≡ try_to_propose u id self.old saves first.items) }
     {
         let mut letters = first;
         if let Some(decree) = self.proposal(u) {
@@ -77,7 +78,7 @@ impl State {
     /// The view becomes one of its own.
     pub fn suspected(&mut self, alloc: Global, u: u8, id: u8) -> Result<Outcome, Fault>
         requires { u < 4 }
-        ensures done { IfOk result (λ outcome. record { state = self.new; saves = outcome.saves; letters = outcome.letters.items } ≡ suspected u id self.old) }
+        ensures done { IfOk result (λ outcome. verifier_left self.new outcome ≡ suspected u id self.old) }
         ensures err { IfErr result (λ fault. (fault ≡ Fault.NoMemory) ⊎ ((fault ≡ Fault.Stopped) × (2 ^ 64 ≤ next_led u id self.old.view))) }
     {
         let Some(view) = next_view(u, id, self.view) else {

@@ -14,11 +14,12 @@ use std::alloc::Global;
 use view_change::Promise;
 
 impl State {
+    ghost use Rattle.verifier.specs.State.{verifier_left};
     /// Does what the input asks for. Stopped: its view, or the place after what it knows, would rise
     /// above the greatest number.
     pub fn step(&mut self, alloc: Global, u: u8, id: u8, input: Input) -> Result<Outcome, Fault>
         requires { u < 4 }
-        ensures done { IfOk result (λ outcome. record { state = self.new; saves = outcome.saves; letters = outcome.letters.items } ≡ step u id self.old input) }
+        ensures done { IfOk result (λ outcome. verifier_left self.new outcome ≡ step u id self.old input) }
         ensures fits_none { IsTrue (not (fits_line self.old input)) → IsOk result }
         ensures err { IfErr result (λ fault. (fault ≡ Fault.NoMemory) ⊎ ((fault ≡ Fault.Stopped) × ((2 ^ 64 ≤ (step u id self.old input).state.view) ⊎ (2 ^ 64 ≤ next_place (step u id self.old input).state)))) }
     {
@@ -42,7 +43,7 @@ impl State {
         body: Ballot,
     ) -> Result<Outcome, Fault>
         requires { u < 4 }
-        ensures done { IfOk result (λ outcome. record { state = self.new; saves = outcome.saves; letters = outcome.letters.items } ≡ of_executor u id self.old from body) }
+        ensures done { IfOk result (λ outcome. verifier_left self.new outcome ≡ of_executor u id self.old from body) }
         ensures fits_none { IsTrue (not (fits_executor self.old from body)) → IsOk result }
         ensures err { IfErr result (λ fault. fault ≡ Fault.NoMemory) }
     {
@@ -76,7 +77,7 @@ impl State {
         body: Ballot,
     ) -> Result<Outcome, Fault>
         requires { u < 4 }
-        ensures done { IfOk result (λ outcome. record { state = self.new; saves = outcome.saves; letters = outcome.letters.items } ≡ of_verifier u id self.old from body) }
+        ensures done { IfOk result (λ outcome. verifier_left self.new outcome ≡ of_verifier u id self.old from body) }
         ensures fits_none { IsTrue (not (fits_verifier self.old from body)) → IsOk result }
         ensures err { IfErr result (λ fault. (fault ≡ Fault.NoMemory) ⊎ ((fault ≡ Fault.Stopped) × (2 ^ 64 ≤ next_place (of_verifier u id self.old from body).state))) }
     {

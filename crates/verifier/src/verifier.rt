@@ -5,6 +5,7 @@ ghost use Rattle.verifier.specs.State.{VerifierState, known};
 ghost use Rattle.verifier.specs.Lines.{restarted};
 ghost use Rattle.verifier.specs.Verifier.{VerifierView, Opens, IsUnreadable, Stored, handled, outcome, IsAtLimit};
 ghost use Rattle.wire.specs.Record.{Refused};
+ghost use Rattle.keeper.specs.Kept.{TriesToSave};
 
 use crate::input::Input;
 use crate::restore::restore;
@@ -43,17 +44,10 @@ fn save<K: Keeper<Text>>(
     state: &State,
     keeper: &mut K,
 ) -> Result<(), Fault>
-    ensures saved { OnOk result (K.saved keeper.new ≡ Some (record_text u id state.now)) }
-    ensures none_failed { OnOk result (K.failed keeper.new ≡ K.failed keeper.old) }
-    ensures same_word { OnOk result (K.told keeper.new ≡ K.told keeper.old) }
-    ensures as_told { IsTrue (K.told keeper.old) → IsErr result }
-    ensures old { OnErr result (K.saved keeper.new ≡ K.saved keeper.old) }
+    ensures tries { TriesToSave K.saved K.failed K.told (record_text u id state.now) keeper.old keeper.new result }
     ensures no_memory { result ≡ Err Fault.NoMemory → K.failed keeper.new ≡ K.failed keeper.old }
     ensures stopped { result ≡ Err Fault.Stopped → (K.failed keeper.old < K.failed keeper.new) ⊎ (K.failed keeper.old ≡ 2 ^ 64 - 1) }
     ensures only { IfErr result (λ fault. (fault ≡ Fault.NoMemory) ⊎ (fault ≡ Fault.Stopped)) }
-    ensures counted { K.failed keeper.old ≤ K.failed keeper.new }
-    ensures untried { K.failed keeper.new ≡ K.failed keeper.old → K.told keeper.new ≡ K.told keeper.old }
-    ensures spent { K.failed keeper.old < K.failed keeper.new → K.told keeper.new ≡ false }
 {
     let record = state.record(alloc, u, id)?;
     save_record(record, keeper)
@@ -88,6 +82,7 @@ impl<K: Keeper<Text>> Verifier<K> {
     ghost use Rattle.verifier.specs.Lines.{restarted};
     ghost use Rattle.verifier.specs.Verifier.{VerifierView, Opens, IsUnreadable, handled, outcome, IsAtLimit};
     ghost use Rattle.verifier.specs.Lent.{LendsKeeper};
+    ghost use Rattle.keeper.specs.Kept.{CountsFailures};
 
     /// Opens the verifier `id` of `2u + 1`. If the keeper has no record it is new, and its first
     /// record is saved. Else it goes on from its record, which it leaves as it is, and asks the others
@@ -113,9 +108,7 @@ impl<K: Keeper<Text>> Verifier<K> {
         ensures none_failed { IfErr result (λ refused. refused.0 ≡ Fault.NoMemory → K.failed refused.1 ≡ K.failed keeper) }
         ensures untouched { IsSome (K.saved keeper) → IfErr result (λ refused. refused.1 ≡ keeper) }
         ensures saved { IfErr result (λ refused. K.saved refused.1 ≡ K.saved keeper) }
-        ensures counted { IfErr result (λ refused. K.failed keeper ≤ K.failed refused.1) }
-        ensures untried { IfErr result (λ refused. K.failed refused.1 ≡ K.failed keeper → K.told refused.1 ≡ K.told keeper) }
-        ensures spent { IfErr result (λ refused. K.failed keeper < K.failed refused.1 → K.told refused.1 ≡ false) }
+        ensures failures { IfErr result (λ refused. CountsFailures (K.failed keeper) (K.told keeper) (K.failed refused.1) (K.told refused.1)) }
         ensures only { IfErr result (λ refused. (refused.0 ≡ Fault.NoMemory) ⊎ (refused.0 ≡ Fault.BadRecord) ⊎ (refused.0 ≡ Fault.Stopped)) }
     {
         match stored(alloc, u, id, &keeper) {
@@ -139,9 +132,7 @@ impl<K: Keeper<Text>> Verifier<K> {
         ensures stopped { IfErr result (λ refused. refused.0 ≡ Fault.Stopped → (K.failed keeper < K.failed refused.1) ⊎ (K.failed keeper ≡ 2 ^ 64 - 1)) }
         ensures none_failed { IfErr result (λ refused. refused.0 ≡ Fault.NoMemory → K.failed refused.1 ≡ K.failed keeper) }
         ensures saved { IfErr result (λ refused. K.saved refused.1 ≡ K.saved keeper) }
-        ensures counted { IfErr result (λ refused. K.failed keeper ≤ K.failed refused.1) }
-        ensures untried { IfErr result (λ refused. K.failed refused.1 ≡ K.failed keeper → K.told refused.1 ≡ K.told keeper) }
-        ensures spent { IfErr result (λ refused. K.failed keeper < K.failed refused.1 → K.told refused.1 ≡ false) }
+        ensures failures { IfErr result (λ refused. CountsFailures (K.failed keeper) (K.told keeper) (K.failed refused.1) (K.told refused.1)) }
     {
         let Ok(state) = State::first(alloc, u, id) else {
             return Err((Fault::NoMemory, keeper));
@@ -197,9 +188,7 @@ impl<K: Keeper<Text>> Verifier<K> {
         ensures as_told { IsTrue self.old.told → IsTrue (outcome self.old input).saves → IsErr result }
         ensures same { OnErr result ((self.new.id ≡ self.old.id) × (self.new.u ≡ self.old.u)) }
         ensures old_record { OnErr result (self.new.saved ≡ self.old.saved) }
-        ensures counted { self.old.failures ≤ self.new.failures }
-        ensures untried { self.new.failures ≡ self.old.failures → self.new.told ≡ self.old.told }
-        ensures spent { self.old.failures < self.new.failures → self.new.told ≡ false }
+        ensures failures { CountsFailures self.old.failures self.old.told self.new.failures self.new.told }
         ensures unsaved { (outcome self.old input).saves ≡ false → self.new.failures ≡ self.old.failures }
         ensures no_memory { result ≡ Err Fault.NoMemory → self.new.failures ≡ self.old.failures }
         ensures stopped { result ≡ Err Fault.Stopped → (self.old.failures < self.new.failures) ⊎ IsAtLimit self.old input }
@@ -233,9 +222,7 @@ impl<K: Keeper<Text>> Verifier<K> {
         ensures ends { OnErr result (IsTrue (not self.new.up)) }
         ensures same { OnErr result ((self.new.id ≡ self.old.id) × (self.new.u ≡ self.old.u)) }
         ensures old_record { OnErr result (self.new.saved ≡ self.old.saved) }
-        ensures counted { self.old.failures ≤ self.new.failures }
-        ensures untried { self.new.failures ≡ self.old.failures → self.new.told ≡ self.old.told }
-        ensures spent { self.old.failures < self.new.failures → self.new.told ≡ false }
+        ensures failures { CountsFailures self.old.failures self.old.told self.new.failures self.new.told }
         ensures unsaved { (outcome self.old input).saves ≡ false → self.new.failures ≡ self.old.failures }
 
         // When each comes.

@@ -6,7 +6,7 @@ use Rattle.decrees.specs.declared.node.Letter.{Letter}
 use Rattle.exec_lines.specs.declared.body.Body.{Body}
 use Rattle.client.specs.declared.input.Input.TheVariants.{Feed}
 use Rattle.client.specs.Step.{IsFed}
-use Rattle.worlds.specs.Slots.{ClientSlot, ClientSettlesWhere}
+use Rattle.worlds.specs.Clients.{ClientSlot, ClientSettlesWhere}
 use Rattle.worlds.specs.World.{WorldView, ClientAtGiven, ClientGiven}
 
 same_settle : (up : Bool) (old now : ClientSlot) (new : List (Letter Body)) (copy bytes : Vec ℕ Global) → copy.items ≡ bytes.items → ClientSettlesWhere up old (Feed copy) now new → ClientSettlesWhere up old (Feed bytes) now new

@@ -1,3 +1,4 @@
+mod ClientLemmas
 mod FedLemmas
 mod WorkLemmas
 mod HistoryLemmas

@@ -3,7 +3,7 @@ use Rattle.std.proofs.Common.{ℕ, ◌+◌, ◌<◌, ◌≤◌, List, length, sy
 use Rattle.std.proofs.lemmas.Bool.{cases_lt}
 use Rattle.std.proofs.lemmas.Option.{slice_get_past}
 use Rattle.exec_node.specs.Executor.{ExecutorView}
-use Rattle.worlds.specs.Slot.{Slot}
+use Rattle.slots.specs.Slot.{Slot}
 use Rattle.world.specs.Work.{HasNoWork}
 
 abbrev pub NoWorkBelow : List (Slot ExecutorView) → ℕ → Type 0

@@ -6,7 +6,7 @@ use Rattle.events.specs.declared.event.Event.{Event}
 use Rattle.events.specs.Config.{ConfigView}
 use Rattle.memcached_spec.specs.Order.{AllGiven}
 use Rattle.worlds.specs.World.{ReachedWorlds, EndsWith, WorldView}
-use Rattle.server_laws.specs.Saved.{DigestsAreDistinct}
+use Rattle.one_server_laws.specs.Saved.{DigestsAreDistinct}
 use Rattle.linear_laws.specs.Laws.{history_of}
 use Rattle.linear_laws.specs.InTime.{IsLinearizablePlay}
 

@@ -5,8 +5,8 @@ use Rattle.exec_lines.specs.declared.shown.NextWork.TheVariants as next_work
 use Rattle.exec_node.specs.Executor.{ExecutorView}
 use Rattle.events.specs.declared.event.Event.{Event}
 use Rattle.events.specs.declared.event.Event.TheVariants.{Step, Finish}
-use Rattle.worlds.specs.Slot.{Slot}
-use Rattle.worlds.specs.Status.{WaitsFor}
+use Rattle.slots.specs.Slot.{Slot}
+use Rattle.slots.specs.Status.{WaitsFor}
 
 abbrev pub work_event : ℕ → NextWork → Event
 work_event id (next_work.Step place) = Step id place

@@ -7,8 +7,8 @@ use Rattle.decrees.specs.Count.{member_count}
 use Rattle.exec_lines.specs.declared.body.Body.{Body}
 use Rattle.exec_node.specs.Executor.{ExecutorView}
 use Rattle.verifier.specs.Verifier.{VerifierView}
-use Rattle.worlds.specs.Slot.{Slot}
-use Rattle.worlds.specs.Slots.{ClientSlot}
+use Rattle.slots.specs.Slot.{Slot}
+use Rattle.worlds.specs.Clients.{ClientSlot}
 use Rattle.worlds.specs.World.{WorldView}
 
 pub record IsWorld (w : WorldView) : Type 0 where

@@ -2,13 +2,14 @@
 
 use crate::sending::send;
 use crate::world::World;
+use events::Replica;
+use slots::send_ballots;
 use std::alloc::{AllocError, Global};
-use worlds::{Replica, send_ballots};
 
 impl World {
     ghost use Rattle.std.specs.Prelude.{◌≡◌, OnOk, slice_get};
     ghost use Rattle.events.specs.declared.event.Event.TheVariants.{Crash, Restart, Lost, FailSave};
-    ghost use Rattle.worlds.specs.Slots.{executor_kept, executor_told, verifier_kept, verifier_told, crashed_slot, lost_slot, told_slot};
+    ghost use Rattle.slots.specs.Slots.{executor_kept, executor_told, verifier_kept, verifier_told, crashed_slot, lost_slot, told_slot};
     ghost use Rattle.worlds.specs.World.{WorldNext, ExecutorAtOpened, VerifierAtOpened, executor_changed, verifier_changed};
 
     fn crash_executor(&mut self, id: u8)

@@ -1,12 +1,12 @@
 //! A letter comes to the node that it names.
 
+use crate::copies::letter_copy;
 use crate::world::World;
 use client::Input as ClientInput;
 use decrees::{Letter, Node};
 use exec_lines::{Body, Input as ExecutorInput};
 use std::alloc::{AllocError, Global};
 use verifier::Input as VerifierInput;
-use worlds::letter_copy;
 
 impl World {
     ghost use Rattle.std.specs.Prelude.{◌≡◌, OnOk};

@@ -4,9 +4,9 @@ use crate::sending::send;
 use crate::world::World;
 use client::Input as ClientInput;
 use exec_lines::Input as ExecutorInput;
+use slots::send_ballots;
 use std::alloc::{AllocError, Global};
 use verifier::Input as VerifierInput;
-use worlds::send_ballots;
 
 impl World {
     ghost use Rattle.std.specs.Prelude.{◌≡◌, OnOk, slice_get};

@@ -4,10 +4,11 @@ ghost use Rattle.std.specs.Prelude.{◌≡◌, ◌++◌, ◌∷◌, [], map, IfO
 ghost use Rattle.linear_laws.specs.Laws.{given_in};
 ghost use Rattle.world.specs.History.{IsHistoryOfPlay, IsHistoryTo, IsLinearizableIfDistinct, texts_in, history_in};
 
+use crate::client_slot::ClientSlot;
 use crate::world::World;
+use events::{Config, Event};
 use linear_laws::reached_are_linearizable;
 use std::alloc::{AllocError, Global};
-use worlds::{ClientSlot, Config, Event};
 
 /// What the clients had been given, that of number 1 first.
 fn given_now(alloc: Global, clients: &[ClientSlot]) -> Result<Vec<Vec<u8>>, AllocError>

@@ -1,13 +1,15 @@
 //! The first world.
 
 ghost use Rattle.std.specs.Prelude.{◌≡◌, ◌<◌, ◌≤◌, ◌*◌, ◌+◌, IfOk};
-ghost use Rattle.worlds.specs.declared.slot.Slot.TheVariants.{Up};
+ghost use Rattle.slots.specs.declared.slot.Slot.TheVariants.{Up};
 ghost use Rattle.worlds.specs.World.{new_clients};
 ghost use Rattle.worlds.specs.First.{first_executor, first_verifier, all_up};
 
+use crate::client_slot::ClientSlot;
 use crate::world::{World, end_executors};
+use events::Config;
+use slots::{ExecutorSlot, Status, VerifierSlot};
 use std::alloc::{AllocError, Global};
-use worlds::{ClientSlot, Config, ExecutorSlot, Status, VerifierSlot};
 
 /// So many clients, of which nothing came yet.
 fn first_clients(alloc: Global, u: u8, count: u16) -> Result<Vec<ClientSlot>, AllocError>

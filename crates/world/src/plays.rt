@@ -1,16 +1,18 @@
 //! A play of events, from the first world on.
 
 ghost use Rattle.std.specs.Prelude.{◌≡◌, IfOk, IsTrue};
-ghost use Rattle.worlds.specs.Laws.{IsReached, OneIsChosen, ChosenIsBacked, ChosenStands, ChosenIsKept, trims_none};
-ghost use Rattle.server_laws.specs.Laws.{ShowsOneServer, KeepsItsRun};
+ghost use Rattle.worlds.specs.World.{IsReached};
+ghost use Rattle.world_laws.specs.Laws.{OneIsChosen, ChosenIsBacked, ChosenStands, ChosenIsKept, trims_none};
+ghost use Rattle.one_server_laws.specs.Laws.{ShowsOneServer, KeepsItsRun};
 ghost use Rattle.linear_laws.specs.Laws.{ShowsLinearizable};
 
 use crate::world::World;
+use events::{Config, Event};
 use linear_laws::reached_are_linearizable;
-use server_laws::{executors_keep_the_run, worlds_are_of_one_server};
+use one_server_laws::{executors_keep_the_run, worlds_are_of_one_server};
 use std::alloc::{AllocError, Global};
-use worlds::{
-    Config, Event, chosen_is_backed_in_worlds, chosen_is_kept_in_worlds, chosen_stands_in_worlds,
+use world_laws::{
+    chosen_is_backed_in_worlds, chosen_is_kept_in_worlds, chosen_stands_in_worlds,
     one_is_chosen_in_worlds,
 };
 

@@ -2,10 +2,10 @@
 
 use crate::world::World;
 use client::Input as ClientInput;
+use events::Event;
 use exec_lines::Input as ExecutorInput;
 use std::alloc::{AllocError, Global};
 use verifier::Input as VerifierInput;
-use worlds::Event;
 
 impl World {
     ghost use Rattle.std.specs.Prelude.{◌≡◌, IfOk, OnOk};

@@ -4,8 +4,8 @@ ghost use Rattle.std.specs.Prelude.{◌≡◌};
 ghost use Rattle.world.specs.Work.{work_event};
 
 use crate::world::World;
+use events::Event;
 use exec_lines::NextWork;
-use worlds::Event;
 
 /// The event by which an executor does what comes next of its work.
 fn event_of(executor: u8, next: NextWork) -> Event

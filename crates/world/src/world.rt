@@ -2,10 +2,11 @@
 
 ghost use Rattle.std.specs.Prelude.{◌≡◌};
 
+use crate::client_slot::ClientSlot;
 use decrees::Letter;
 use exec_lines::Body;
+use slots::{ExecutorSlot, VerifierSlot};
 use std::marker::Model;
-use worlds::{ClientSlot, ExecutorSlot, VerifierSlot};
 
 /// All nodes of one world, and all letters that were ever sent. It cannot be dropped, since executors
 /// cannot: `end` ends it.
@@ -18,10 +19,10 @@ pub struct World {
 }
 
 impl Model for World {
-    ghost use Rattle.worlds.specs.contracts.client_slot.ClientSlot as client_slot;
+    ghost use Rattle.world.specs.contracts.client_slot.ClientSlot as client_slot;
     ghost use Rattle.exec_lines.specs.contracts.state.State as executor;
     ghost use Rattle.verifier.specs.contracts.state.State as verifier;
-    ghost use Rattle.worlds.specs.UpSlots.{executor_slot_code, verifier_slot_code};
+    ghost use Rattle.slots.specs.UpSlots.{executor_slot_code, verifier_slot_code};
     ghost use Rattle.decrees.specs.contracts.node.Letter as letter;
     ghost use Rattle.exec_lines.specs.contracts.body.Body as body;
     ghost use Rattle.worlds.specs.World.{WorldView};

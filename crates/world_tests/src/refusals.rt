@@ -3,10 +3,10 @@
 
 use crate::stage::{Done, played};
 use proto::Fault;
+use slots::Status;
 use std::alloc::Global;
 use std::test::Fail;
 use world::World;
-use worlds::Status;
 
 /// Executor 2 is the first to execute each batch.
 const EXECUTOR_2_FIRST: [Done; 8] = [

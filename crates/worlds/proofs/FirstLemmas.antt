@@ -14,14 +14,13 @@ use Rattle.events.specs.declared.event.Event.TheVariants.{Restart}
 use Rattle.events.specs.declared.event.Replica.{Replica}
 use Rattle.events.specs.declared.event.Replica.TheVariants.{Executor, Verifier}
 use Rattle.events.specs.Config.{ConfigView}
-use Rattle.worlds.specs.Slot.{Slot}
-use Rattle.worlds.specs.declared.slot.Slot.TheVariants.{Up, Down}
-use Rattle.worlds.specs.declared.status.VerifierReport.{VerifierReport}
-use Rattle.worlds.specs.declared.status.Status.TheVariants as status
-use Rattle.worlds.specs.Status.{status_of, executor_report, verifier_report}
-use Rattle.worlds.specs.Slots.{ExecutorReopens, VerifierReopens}
-use Rattle.worlds.specs.World.{WorldView, WorldNext, ExecutorAtOpened, VerifierAtOpened, nothing_kept, unopened_world, restarts_below, IsFirstWorld}
-use Rattle.worlds.specs.Laws.{IsReached}
+use Rattle.slots.specs.Slot.{Slot}
+use Rattle.slots.specs.declared.slot.Slot.TheVariants.{Up, Down}
+use Rattle.slots.specs.declared.status.VerifierReport.{VerifierReport}
+use Rattle.slots.specs.declared.status.Status.TheVariants as status
+use Rattle.slots.specs.Status.{status_of, executor_report, verifier_report}
+use Rattle.slots.specs.Slots.{ExecutorReopens, VerifierReopens, nothing_kept}
+use Rattle.worlds.specs.World.{WorldView, WorldNext, ExecutorAtOpened, VerifierAtOpened, unopened_world, restarts_below, IsFirstWorld, IsReached}
 use Rattle.worlds.specs.First.{first_executor, first_verifier, all_up, first_world}
 use Rattle.worlds.proofs.LeadLemmas.{LeadsTo, leads_nowhere, leads_on, leads_append}
 

@@ -3,8 +3,7 @@ use Rattle.std.proofs.Common.{◌≡◌, ℕ, ◌+◌, ◌<◌, length, get_or, 
 use Rattle.std.proofs.lemmas.List.{take_more}
 use Rattle.events.specs.declared.event.Event.{Event}
 use Rattle.events.specs.Config.{ConfigView}
-use Rattle.worlds.specs.World.{WorldView, WorldNext, WorldRuns, last_world, ReachedWorlds, EndsWith}
-use Rattle.worlds.specs.Laws.{IsReached}
+use Rattle.worlds.specs.World.{WorldView, WorldNext, WorldRuns, last_world, ReachedWorlds, EndsWith, IsReached}
 
 pub runs_append : (w : WorldView) (es fs : List Event) (xs ys : List WorldView) → WorldRuns w es xs → WorldRuns (last_world w xs) fs ys → WorldRuns w (es ++ fs) (xs ++ ys)
 runs_append w [] fs [] ys runs more = more

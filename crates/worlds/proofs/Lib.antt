@@ -1,13 +1,3 @@
 pub mod SlotLemmas
-pub mod OwnLetters
-pub mod BallotLemmas
-pub mod Follows
-pub mod Restarts
-pub mod Projected
-pub mod Untrimmed
-pub mod Proved
 pub mod LeadLemmas
 pub mod FirstLemmas
-mod StepLemmas
-mod ClientLemmas
-mod RunLemmas

@@ -8,8 +8,8 @@ use Rattle.verifier.specs.State.{new_state}
 use Rattle.verifier.specs.Record.{record_text}
 use Rattle.verifier.specs.Verifier.{VerifierView}
 use Rattle.events.specs.Config.{ConfigView}
-use Rattle.worlds.specs.Slot.{Slot}
-use Rattle.worlds.specs.declared.slot.Slot.TheVariants.{Up}
+use Rattle.slots.specs.Slot.{Slot}
+use Rattle.slots.specs.declared.slot.Slot.TheVariants.{Up}
 use Rattle.worlds.specs.World.{WorldView, new_clients}
 
 -- an executor that was just opened, and never before: this is what its first record says

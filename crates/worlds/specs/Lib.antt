@@ -1,11 +1,4 @@
-pub mod Slot
-pub mod Slots
+pub mod Clients
 pub mod World
-pub mod Ballots
-pub mod Machines
-pub mod Laws
-pub mod UpSlots
-pub mod Status
 pub mod First
-pub mod Runs
 pub mod Asked

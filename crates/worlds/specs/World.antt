@@ -1,6 +1,5 @@
 -- All nodes, and all letters that were ever sent, through any list of events.
 use Rattle.std.specs.Prelude.{◌≡◌, ℕ, zero, suc, true, false, List, [], ◌∷◌, ◌++◌, map, Option, None, Some, replicate, slice_get, slice_set}
-use Rattle.keeper.specs.Kept.{Kept}
 use Rattle.decrees.specs.declared.ballot.Ballot.{Ballot}
 use Rattle.decrees.specs.declared.node.Letter.{Letter}
 use Rattle.decrees.specs.declared.node.Node.{Node}
@@ -21,10 +20,12 @@ use Rattle.events.specs.declared.event.Event.{Event}
 use Rattle.events.specs.declared.event.Event.TheVariants.{Feed, Again, Hangup, Deliver, Cut, Step, Finish, Suspect, Trim, Crash, Restart, Lost, FailSave}
 use Rattle.events.specs.declared.event.Replica.{Replica}
 use Rattle.events.specs.declared.event.Replica.TheVariants.{Executor, Verifier}
-use Rattle.worlds.specs.Slot.{Slot}
-use Rattle.worlds.specs.declared.slot.Slot.TheVariants.{Down}
+use Rattle.slots.specs.Slot.{Slot}
+use Rattle.slots.specs.declared.slot.Slot.TheVariants.{Down}
 use Rattle.events.specs.Config.{ConfigView}
-use Rattle.worlds.specs.Slots.{verifier_kept, executor_kept, verifier_told, executor_told, crashed_slot, lost_slot, told_slot, VerifierSettles, ExecutorSettles, VerifierReopens, ExecutorReopens, ClientSlot, ClientSettles}
+use Rattle.slots.specs.Slots.{verifier_kept, executor_kept, verifier_told, executor_told, crashed_slot, lost_slot, told_slot, VerifierSettles, ExecutorSettles, VerifierReopens, ExecutorReopens, nothing_kept}
+use Rattle.slots.specs.Sending.{as_sent}
+use Rattle.worlds.specs.Clients.{ClientSlot, ClientSettles}
 
 pub record WorldView : Type 0 where
   -- how many of 2u + 1 executors, and of as many verifiers, may fail
@@ -35,10 +36,6 @@ pub record WorldView : Type 0 where
   pub verifiers : List (Slot VerifierView)
   -- all that were ever sent, in this order: letters are numbered from 1
   pub letters : List (Letter Body)
-
--- a ballot of a verifier, as a letter among all
-abbrev pub as_sent : Letter Ballot → Letter Body
-as_sent l = record { from = l.from; to = l.to; body = body.Ballot l.body }
 
 -- ---- what becomes of one node, and what it sends
 
@@ -168,9 +165,6 @@ abbrev pub new_clients : ℕ → ℕ → List ClientSlot
 new_clients u zero = []
 new_clients u (suc n) = new_clients u n ++ record { client = record { client = suc n; u = u; talk = new_talk; up = true }; given = [] } ∷ []
 
-abbrev pub nothing_kept : Kept
-nothing_kept = record { saved = None; failures = 0; fails_next = false }
-
 -- all replicas are down, and none has a record
 abbrev pub unopened_world : ConfigView → WorldView
 unopened_world c = record {
@@ -201,3 +195,9 @@ ReachedWorlds c events (first ∷ later) = IsFirstWorld c first × WorldRuns fir
 abbrev pub EndsWith : List WorldView → WorldView → Type 0
 EndsWith [] w = ⊥
 EndsWith (first ∷ later) w = last_world first later ≡ w
+
+-- the world is the last one that these events lead to
+pub record IsReached (c : ConfigView) (events : List Event) (w : WorldView) : Type 0 where
+  pub worlds : List WorldView
+  pub reached : ReachedWorlds c events worlds
+  pub ends : EndsWith worlds w

@@ -1,7 +1,7 @@
 use Rattle.std.proofs.Common.{ℕ, [], ◌∷◌, ◌++◌, sym, ap, ◌∙◌, arith, vec_len, replicate}
 use Rattle.std.proofs.lemmas.Grind.{replicate_next}
-use Rattle.worlds.specs.declared.slot.Slot.TheVariants.{Down}
-use Rattle.worlds.specs.World.{nothing_kept}
+use Rattle.slots.specs.declared.slot.Slot.TheVariants.{Down}
+use Rattle.slots.specs.Slots.{nothing_kept}
 use Rattle.hosts.specs.Host.{HostView}
 use Rattle.member.proofs.opening.unopened_executors.Goals as goal
 

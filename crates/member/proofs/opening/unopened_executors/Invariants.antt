@@ -1,6 +1,6 @@
 use Rattle.std.proofs.Common.{◌≡◌, ◌≤◌, ◌-◌, [], vec_len, vec_capacity, replicate}
-use Rattle.worlds.specs.declared.slot.Slot.TheVariants.{Down}
-use Rattle.worlds.specs.World.{nothing_kept}
+use Rattle.slots.specs.declared.slot.Slot.TheVariants.{Down}
+use Rattle.slots.specs.Slots.{nothing_kept}
 use Rattle.hosts.specs.Host.{HostView}
 use Rattle.member.proofs.opening.unopened_executors.Given as goal
 

@@ -1,9 +1,9 @@
 use Rattle.std.proofs.Common.{ℕ, [], ◌∷◌, ◌++◌, sym, ap, ◌∙◌, arith, vec_len, replicate}
 use Rattle.std.proofs.lemmas.Grind.{replicate_next}
-use Rattle.worlds.specs.declared.slot.Slot.TheVariants.{Down}
-use Rattle.worlds.specs.World.{nothing_kept}
+use Rattle.slots.specs.declared.slot.Slot.TheVariants.{Down}
+use Rattle.slots.specs.Slots.{nothing_kept}
 use Rattle.verifier.specs.Verifier.{VerifierView}
-use Rattle.worlds.specs.Slot.{Slot}
+use Rattle.slots.specs.Slot.{Slot}
 use Rattle.member.proofs.opening.unopened_verifiers.Goals as goal
 
 pub loop-slots-preserved : goal.loop-slots-preserved

@@ -1,8 +1,8 @@
 use Rattle.std.proofs.Common.{◌≡◌, ◌≤◌, ◌-◌, vec_len, vec_capacity, replicate}
-use Rattle.worlds.specs.declared.slot.Slot.TheVariants.{Down}
-use Rattle.worlds.specs.World.{nothing_kept}
+use Rattle.slots.specs.declared.slot.Slot.TheVariants.{Down}
+use Rattle.slots.specs.Slots.{nothing_kept}
 use Rattle.verifier.specs.Verifier.{VerifierView}
-use Rattle.worlds.specs.Slot.{Slot}
+use Rattle.slots.specs.Slot.{Slot}
 use Rattle.member.proofs.opening.unopened_verifiers.Given as goal
 
 abbrev pub invariant-loop-slots : goal.invariant-loop-slots

@@ -1,6 +1,6 @@
 use Rattle.std.proofs.Common.{ℕ, [], ◌∷◌, ◌++◌, sym, ap, ◌∙◌, arith, vec_len, replicate}
 use Rattle.std.proofs.lemmas.Grind.{replicate_next}
-use Rattle.worlds.specs.World.{nothing_kept}
+use Rattle.slots.specs.Slots.{nothing_kept}
 use Rattle.member.proofs.process_form.new_keepers.Goals as goal
 
 pub loop-keepers-preserved : goal.loop-keepers-preserved

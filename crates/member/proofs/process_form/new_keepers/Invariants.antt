@@ -1,5 +1,5 @@
 use Rattle.std.proofs.Common.{◌≡◌, ◌≤◌, ◌-◌, vec_len, vec_capacity, replicate}
-use Rattle.worlds.specs.World.{nothing_kept}
+use Rattle.slots.specs.Slots.{nothing_kept}
 use Rattle.member.proofs.process_form.new_keepers.Given as goal
 
 abbrev pub invariant-loop-keepers : goal.invariant-loop-keepers

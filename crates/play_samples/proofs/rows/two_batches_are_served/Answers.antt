@@ -12,7 +12,7 @@ use Rattle.proto.specs.declared.turn.Turn.{Turn}
 use Rattle.proto.specs.declared.turn.Turn.TheVariants.{Ask}
 use Rattle.batches.specs.declared.batch.Batch.{Batch}
 use Rattle.run_laws.proofs.Elements.{in_head}
-use Rattle.server_laws.specs.Served.{WasAnswered}
+use Rattle.one_server_laws.specs.Served.{WasAnswered}
 use Rattle.play_samples.specs.Plays.{two_rounds, round_of}
 use Rattle.play_samples.proofs.rows.two_batches_are_served.Goals as goal
 

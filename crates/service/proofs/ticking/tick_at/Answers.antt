@@ -1,5 +1,5 @@
 use Rattle.std.proofs.Common.{◌≡◌, sym, ◌∙◌}
-use Rattle.serving.specs.declared.patience.Urge.TheVariants.{Wait, Again, Suspect}
+use Rattle.housekeeping.specs.declared.patience.Urge.TheVariants.{Wait, Again, Suspect}
 use Rattle.service.proofs.TickLemmas.{calm_waits, urged_waits}
 use Rattle.service.proofs.OwedLemmas.{sets_keeps}
 use Rattle.service.proofs.ticking.tick_at.Goals as goal

@@ -6,7 +6,7 @@ use Rattle.connections.specs.Slots.{is_untaken_in, left_at}
 use Rattle.service.specs.declared.note.Waiting.{Waiting}
 use Rattle.service.specs.Owed.{Remembers, queue_with}
 use Rattle.service.proofs.OwedLemmas.{replied_remembers, leaves_remembers}
-use Rattle.connections.specs.declared.said.Said.{Said}
+use Rattle.loop_messages.specs.declared.message.Said.{Said}
 use Rattle.service.specs.Told.{MayTell}
 use Rattle.service.proofs.ToldLemmas.{may_tell, left_tells}
 use Rattle.service.proofs.working.answer_to.Goals as goal

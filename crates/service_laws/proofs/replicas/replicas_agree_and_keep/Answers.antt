@@ -1,4 +1,4 @@
-use Rattle.worlds.specs.Laws.{OneIsChosen, ChosenIsBacked, ChosenStands, ChosenIsKept}
+use Rattle.world_laws.specs.Laws.{OneIsChosen, ChosenIsBacked, ChosenStands, ChosenIsKept}
 use Rattle.service.specs.Service.{ServiceView, HasEnsemble}
 use Rattle.service.specs.Process.{IsWhole, found_by}
 use Rattle.service.proofs.Ending.{holds_after}

@@ -1,8 +1,8 @@
 use Rattle.std.proofs.Common.{Result, Ok, Err}
 use Rattle.std.specs.Prelude.{IfOk}
-use Rattle.worlds.specs.World.{WorldView}
-use Rattle.worlds.specs.Laws.{IsReached, OneIsChosen, ChosenIsBacked, ChosenStands, ChosenIsKept}
-use Rattle.server_laws.specs.Laws.{ShowsOneServer, KeepsItsRun}
+use Rattle.worlds.specs.World.{WorldView, IsReached}
+use Rattle.world_laws.specs.Laws.{OneIsChosen, ChosenIsBacked, ChosenStands, ChosenIsKept}
+use Rattle.one_server_laws.specs.Laws.{ShowsOneServer, KeepsItsRun}
 use Rattle.linear_laws.specs.Laws.{ShowsLinearizable}
 use Rattle.world.proofs.plays.play.Goals as goal
 

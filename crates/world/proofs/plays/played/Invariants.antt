@@ -1,5 +1,5 @@
 use Rattle.std.proofs.Common.{take}
-use Rattle.worlds.specs.Laws.{IsReached}
+use Rattle.worlds.specs.World.{IsReached}
 use Rattle.world.proofs.plays.played.Given as goal
 
 abbrev pub invariant-loop-event : goal.invariant-loop-event

@@ -1,14 +1,12 @@
 use Rattle.std.proofs.Common.{◌∙◌, refl, sym, arith}
 use Rattle.std.proofs.lemmas.List.{append-nil}
 use Rattle.ensemble.proofs.Collecting.{none_collected, collected_more, posted_more, refused_before, refused_after}
+use Rattle.ensemble.proofs.Logs.{keeps_none, keeps_more}
 use Rattle.ensemble.proofs.ensemble.Ensemble.collect_all.Goals as goal
 
 pub loop-id-init : goal.loop-id-init
 loop-id-init c = record {
-  asked = refl;
-  found = refl;
-  answered = refl;
-  order = refl;
+  logs = keeps_none _;
   counted = omega arith;
   size = refl;
   collected = none_collected _;
@@ -17,10 +15,7 @@ loop-id-init c = record {
 
 pub loop-id-preserved : goal.loop-id-preserved
 loop-id-preserved c = record {
-  asked = c.collect.ensures.asked ∙ c.loop-id.invariant.asked;
-  found = c.collect.ensures.found ∙ c.loop-id.invariant.found;
-  answered = c.collect.ensures.answered ∙ c.loop-id.invariant.answered;
-  order = c.collect.ensures.order ∙ c.loop-id.invariant.order;
+  logs = keeps_more _ _ _ c.loop-id.invariant.logs c.collect.ensures.logs;
   counted = (let before = c.loop-id.invariant.counted in let after = c.collect.ensures.counted in omega (arith, before, after));
   size = c.collect.ensures.size ∙ c.loop-id.invariant.size;
   collected = collected_more c.loop-id.id c.args.self.now.nodes c.loop-id.self.nodes c.collect.new.self.nodes c.loop-id.invariant.collected c.collect.ensures.collected;

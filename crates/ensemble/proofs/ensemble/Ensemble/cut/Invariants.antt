@@ -2,14 +2,12 @@ use Rattle.std.proofs.Common.{◌≡◌, ◌≤◌, false}
 use Rattle.ensemble.specs.Nodes.{size_of}
 use Rattle.ensemble.specs.Calls.{AllCollected}
 use Rattle.ensemble.specs.Served.{NoBatchBelow}
+use Rattle.ensemble.specs.Ensemble.{KeepsLogs}
 use Rattle.ensemble.proofs.ensemble.Ensemble.cut.Given as goal
 
 abbrev pub invariant-loop-id : goal.invariant-loop-id
 invariant-loop-id l = record {
-  asked : l.self.asked ≡ l.fn.self.asked;
-  found : l.self.found ≡ l.fn.self.found;
-  answered : l.self.answered ≡ l.fn.self.answered;
-  order : l.self.order ≡ l.fn.self.order;
+  logs : KeepsLogs l.fn.self l.self;
   counted : l.fn.self.refused ≤ l.self.refused;
   size : size_of l.self.nodes ≡ size_of l.fn.self.nodes;
   waits : AllCollected l.fn.self.nodes → AllCollected l.self.nodes;

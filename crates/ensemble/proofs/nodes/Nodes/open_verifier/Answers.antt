@@ -2,7 +2,7 @@ use Rattle.std.proofs.Common.{rules, List, map, refl, subst}
 use Rattle.decrees.specs.declared.ballot.Ballot.{Ballot}
 use Rattle.decrees.specs.declared.node.Letter.{Letter}
 use Rattle.events.specs.declared.event.Replica.TheVariants as replica
-use Rattle.worlds.specs.World.{as_sent}
+use Rattle.slots.specs.Sending.{as_sent}
 use Rattle.ensemble.specs.Nodes.{NodesView, MayGrow, VerifierOpens}
 use Rattle.ensemble.specs.Calls.{IsReopened, IsReopenedAndPosts}
 use Rattle.ensemble.proofs.Served.{ballots_posted}

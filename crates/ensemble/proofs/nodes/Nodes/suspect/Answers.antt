@@ -1,7 +1,7 @@
 use Rattle.std.proofs.Common.{List, map, refl, subst}
 use Rattle.decrees.specs.declared.ballot.Ballot.{Ballot}
 use Rattle.decrees.specs.declared.node.Letter.{Letter}
-use Rattle.worlds.specs.World.{as_sent}
+use Rattle.slots.specs.Sending.{as_sent}
 use Rattle.verifier.specs.declared.input.Input.TheVariants.{Suspect}
 use Rattle.ensemble.specs.Nodes.{NodesView, MayGrow, VerifierMoves, VerifierGets}
 use Rattle.ensemble.specs.Served.{VerifierPosts}

@@ -1,7 +1,7 @@
 use Rattle.std.proofs.Common.{List, map, refl, subst}
 use Rattle.decrees.specs.declared.ballot.Ballot.{Ballot}
 use Rattle.decrees.specs.declared.node.Letter.{Letter}
-use Rattle.worlds.specs.World.{as_sent}
+use Rattle.slots.specs.Sending.{as_sent}
 use Rattle.ensemble.specs.Nodes.{NodesView, MayGrow, VerifierMoves, VerifierTrims}
 use Rattle.ensemble.specs.Trimming.{VerifierTrimsDue}
 use Rattle.ensemble.proofs.nodes.Nodes.trim.Goals as goal

@@ -1,6 +1,6 @@
 use Rattle.std.proofs.Common.{rules, ◌≡◌, ◌≤◌, inl, inr, arith, sym, ◌∙◌, ap}
 use Rattle.std.proofs.lemmas.Bool.{cases_order}
-use Rattle.event_loop.specs.declared.message.TheConstants.{MOST_UNWRITTEN}
+use Rattle.loop_messages.specs.declared.message.TheConstants.{MOST_UNWRITTEN}
 use Rattle.event_loop.specs.Socket.{SocketView}
 use Rattle.event_loop.proofs.SocketLemmas.{tells_then, writes_tells, visit_unread, visit_read}
 use Rattle.event_loop.proofs.socket.Socket.advance.Goals as goal

@@ -11,8 +11,8 @@ returns-in-Ok-clause-opened g c =
       u = c.args.u;
       state = c.args.state;
       up = true;
-      saved = c.in-Ok.ensures.saved i;
-      failures = c.in-Ok.ensures.none_failed i;
-      told = c.in-Ok.ensures.same_word i;
+      saved = c.in-Ok.ensures.tries.kept i;
+      failures = c.in-Ok.ensures.tries.none_failed i;
+      told = c.in-Ok.ensures.tries.same_word i;
     })
     c.in-Ok.ensures.letters

@@ -1,6 +1,6 @@
 use Rattle.std.proofs.Common.{◌≡◌, ◌++◌, List, Option, ℕ, inr, refl, ap, subst, ◌∙◌}
 use Rattle.server.specs.Answering.{AnsweringView}
-use Rattle.event_loop.specs.declared.message.Said.{Said}
+use Rattle.loop_messages.specs.declared.message.Said.{Said}
 use Rattle.server.proofs.DurableLemmas.{held_is_handed_out, nothing_leaves}
 use Rattle.server.proofs.durable.DurableService.go_on.Goals as goal
 

@@ -10,8 +10,8 @@ invariant_of-self c =
     let s = c.self.inside in
     let e = c.stop.new.self in
     let v : ServiceView = record { connections = s.connections; asked = s.ensemble.asked; answered = s.ensemble.answered; order = s.ensemble.order; assignments = assigned s.assignments.items; waiting = s.pool; queue = s.queue.items; replicas = none_shown } in (
-      tended_keeps v e.asked e.answered e.order s.pool c.self.invariant.0 c.stop.ensures.asked c.stop.ensures.answered c.stop.ensures.order (λ i a w. w),
-      same_moments v (record v { asked = e.asked; answered = e.answered; order = e.order }) c.self.invariant.1 refl refl c.stop.ensures.order refl c.stop.ensures.answered,
+      tended_keeps v e.asked e.answered e.order s.pool c.self.invariant.0 c.stop.ensures.logs.asked c.stop.ensures.logs.answered c.stop.ensures.logs.order (λ i a w. w),
+      same_moments v (record v { asked = e.asked; answered = e.answered; order = e.order }) c.self.invariant.1 refl refl c.stop.ensures.logs.order refl c.stop.ensures.logs.answered,
       size_keeps s.u s.nodes.members s.ensemble.nodes e.nodes s.nodes.pauses.items c.self.invariant.2 c.stop.ensures.size,
       c.self.invariant.3,
     )

@@ -15,8 +15,8 @@ invariant_of-self c =
     let e = c.restart-is_back.new.self in
     let v : ServiceView = record { connections = s.connections; asked = s.ensemble.asked; answered = s.ensemble.answered; order = s.ensemble.order; assignments = assigned s.assignments.items; waiting = s.pool; queue = s.queue.items; replicas = none_shown } in
     let paused = ticks_keep s.u s.nodes.members c.tick.new.self.members s.ensemble.nodes c.args.at c.is_up-is_up.result c.tick.result s.nodes.pauses.items c.tick.new.self.pauses.items c.self.invariant.2 c.tick.ensures.members c.tick.ensures.ticks in (
-      tended_keeps v e.asked e.answered e.order s.pool c.self.invariant.0 c.restart-is_back.ensures.asked c.restart-is_back.ensures.answered c.restart-is_back.ensures.order (λ i a w. w),
-      same_moments v (record v { asked = e.asked; answered = e.answered; order = e.order }) c.self.invariant.1 refl refl c.restart-is_back.ensures.order refl c.restart-is_back.ensures.answered,
+      tended_keeps v e.asked e.answered e.order s.pool c.self.invariant.0 c.restart-is_back.ensures.logs.asked c.restart-is_back.ensures.logs.answered c.restart-is_back.ensures.logs.order (λ i a w. w),
+      same_moments v (record v { asked = e.asked; answered = e.answered; order = e.order }) c.self.invariant.1 refl refl c.restart-is_back.ensures.logs.order refl c.restart-is_back.ensures.logs.answered,
       size_keeps s.u c.tick.new.self.members s.ensemble.nodes e.nodes c.tick.new.self.pauses.items paused c.restart-is_back.ensures.size,
       c.self.invariant.3,
     )

@@ -1,5 +1,5 @@
 use Rattle.std.proofs.Common.{◌≡◌, ◌≤◌, ℕ, List, [], ◌∷◌, ◌++◌, map, sym, ap, ◌∙◌, subst}
-use Rattle.connections.specs.declared.said.Said.{Said}
+use Rattle.loop_messages.specs.declared.message.Said.{Said}
 use Rattle.connections.specs.History.{Passed, moment_as}
 use Rattle.ensemble.specs.Nodes.{size_of}
 use Rattle.service.specs.Service.{ServiceView, ReplicasView, RestsUnlessRefused, given_entry, passed_entry}

@@ -1,0 +1,5 @@
+use Rattle.world_laws.proofs.Proved.{chosen_is_backed}
+use Rattle.world_laws.proofs.laws.chosen_is_backed_in_worlds.Goals as goal
+
+pub returns : goal.returns
+returns c = chosen_is_backed

@@ -1,5 +1,0 @@
-use Rattle.worlds.proofs.Proved.{chosen_is_backed}
-use Rattle.worlds.proofs.laws.chosen_is_backed_in_worlds.Goals as goal
-
-pub returns : goal.returns
-returns c = chosen_is_backed

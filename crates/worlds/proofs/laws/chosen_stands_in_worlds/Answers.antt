@@ -1,5 +1,0 @@
-use Rattle.worlds.proofs.Proved.{chosen_stands}
-use Rattle.worlds.proofs.laws.chosen_stands_in_worlds.Goals as goal
-
-pub returns : goal.returns
-returns c = chosen_stands

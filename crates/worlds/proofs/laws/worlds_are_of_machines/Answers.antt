@@ -1,5 +1,0 @@
-use Rattle.worlds.proofs.Projected.{are_of_machines}
-use Rattle.worlds.proofs.laws.worlds_are_of_machines.Goals as goal
-
-pub returns : goal.returns
-returns c = are_of_machines

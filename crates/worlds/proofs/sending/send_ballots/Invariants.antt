@@ -1,6 +1,0 @@
-use Rattle.std.proofs.Common.{◌≡◌, ◌++◌, map, take}
-use Rattle.worlds.specs.World.{as_sent}
-use Rattle.worlds.proofs.sending.send_ballots.Given as goal
-
-abbrev pub invariant-loop-letter : goal.invariant-loop-letter
-invariant-loop-letter l = l.letters.items ≡ l.fn.letters.items ++ map as_sent (take l.letter-index l.sent)
