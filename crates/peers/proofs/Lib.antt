@@ -1,0 +1,4 @@
+mod HelloLemmas
+mod LaneLemmas
+mod StageLemmas
+mod WayLemmas
