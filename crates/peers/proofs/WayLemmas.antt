@@ -11,9 +11,10 @@ use Rattle.seals.specs.Frame.{frame, frames, with_length, tag_behind}
 use Rattle.seals.specs.Opening.{HasOpened, OpensMore}
 use Rattle.links.specs.Numbered.{Numbered}
 use Rattle.links.specs.Message.{message_text}
+use Rattle.links.specs.declared.message.TheConstants.{HEARTBEAT}
 use Rattle.links.specs.Pieces.{bytes_of_pieces}
 use Rattle.links.specs.Reading.{MessageReaderView, HasReadMessages, ReadsMore}
-use Rattle.peers.specs.Ways.{IncomingView, HasHeard, HearsMore, HearsMessages, OutgoingView, HasSaid, SaysMessages}
+use Rattle.peers.specs.Ways.{IncomingView, HasHeard, HearsMore, HearsMessages, OutgoingView, HasSaid, SaysBeats, SaysMessages}
 
 -- ---- what comes
 
@@ -120,6 +121,10 @@ says_one o p m e front key before written h =
       sealed = ap (λ xs. xs ++ o.waits) (append-nil written) ∙ h.sealed;
       sealer_is = h.sealer_is;
     })
+
+-- one heartbeat is said
+pub says_beat : (o p : OutgoingView) (text : List ℕ) → SaysMessages o ((HEARTBEAT, text) ∷ []) [] p → SaysBeats o p
+says_beat o p text says = ((HEARTBEAT, text) ∷ [], All-push (λ (m : Numbered). m.0 ≡ HEARTBEAT) [] (HEARTBEAT, text) (All-nil (λ (m : Numbered). m.0 ≡ HEARTBEAT)) refl, says)
 
 -- the next piece is sealed
 pub seals_one : (o p : OutgoingView) (n : ℕ) → length (take n o.plain) ≤ MOST_PIECE_BYTES → p.sealer ≡ record o.sealer { number = o.sealer.number + 1 } → p.plain ≡ drop n o.plain

@@ -6,6 +6,7 @@ use Rattle.seals.specs.Frame.{frames}
 use Rattle.seals.specs.Opening.{OpenerView, HasOpened}
 use Rattle.links.specs.Numbered.{Numbered}
 use Rattle.links.specs.Message.{message_text}
+use Rattle.links.specs.declared.message.TheConstants.{HEARTBEAT}
 use Rattle.links.specs.Pieces.{bytes_of_pieces}
 use Rattle.links.specs.Reading.{MessageReaderView, HasReadMessages}
 
@@ -55,3 +56,7 @@ pub record HasSaid (front key : List ℕ) (messages : List Numbered) (written : 
 abbrev pub SaysMessages : OutgoingView → List Numbered → List ℕ → OutgoingView → Type 0
 SaysMessages old messages bytes new =
     (front key : List ℕ) (before : List Numbered) (written : List ℕ) → HasSaid front key before written old → HasSaid front key (before ++ messages) (written ++ bytes) new
+
+-- heartbeats are said, and nothing else
+abbrev pub SaysBeats : OutgoingView → OutgoingView → Type 0
+SaysBeats old new = (beats : List Numbered) × All (λ (m : Numbered). m.0 ≡ HEARTBEAT) beats × SaysMessages old beats [] new

@@ -4,7 +4,7 @@ ghost use Rattle.std.specs.Prelude.{◌≡◌, ◌≤◌, ◌<◌, ◌+◌, ◌-
 ghost use Rattle.links.specs.Numbered.{Numbered};
 ghost use Rattle.links.specs.Receiving.{Receives};
 ghost use Rattle.links.specs.declared.message.TheConstants.{HEARTBEAT};
-ghost use Rattle.peers.specs.Ways.{IsAllWritten, SaysMessages};
+ghost use Rattle.peers.specs.Ways.{IsAllWritten, SaysBeats, SaysMessages};
 ghost use Rattle.peers.specs.Lanes.{IfAccepted, IsAccepted, IsAcceptedWith, Admits, ReceivesSome, HearsLetters, AnswersOpen, due_acknowledgement, given_list, letter_bytes, moment_after};
 ghost use Rattle.peers.specs.declared.limits.TheConstants.{BEAT, MOST_SILENCE, MOST_UNTAKEN};
 ghost use Rattle.peers.specs.declared.in_lane.InStage.TheVariants.{Away, Accepted};
@@ -313,7 +313,7 @@ fn say_beat(
     wire: &mut Wire,
     echo: &mut Option<Text>,
 ) -> Result<(), PeerFault>
-    ensures said { OnOk result ((beats : List Numbered) × All (λ (m : Numbered). m.0 ≡ HEARTBEAT) beats × SaysMessages wire.old.outgoing beats [] wire.new.outgoing) }
+    ensures said { OnOk result (SaysBeats wire.old.outgoing wire.new.outgoing) }
     ensures due { OnOk result (moment_after wire.old.beaten BEAT ≤ now → wire.new.beaten ≡ now) }
 {
     if let Some(text) = echo.take() {

@@ -3,8 +3,8 @@
 ghost use Rattle.std.specs.Prelude.{ℕ, ◌≡◌, ◌≤◌, ◌<◌, ◌^◌, ◌↔◌, All, List, [], length, IsTrue, IfOk, OnOk, OnErr, Err};
 ghost use Rattle.links.specs.Numbered.{Numbered};
 ghost use Rattle.links.specs.Sending.{HasRoomFor, last_number, with_letter, new_sending};
-ghost use Rattle.peers.specs.Ways.{HasHeard, HasSaid, SaysMessages};
-ghost use Rattle.peers.specs.Lanes.{HandsOutLetters, LetsGo, IfGreets, IfOpen, IsDown, IsOpen, IsOpenWith, IsLost, IsGreeting, OpensLane, HearsOpen, Fills, WritesOpen, acknowledged_by, deadline_of, moment_after, wakes_of};
+ghost use Rattle.peers.specs.Ways.{HasHeard, HasSaid, SaysBeats, SaysMessages};
+ghost use Rattle.peers.specs.Lanes.{HandsOutLetters, LetsGo, IfGreets, IfOpen, IsDown, IsOpen, IsOpenWith, IsLost, IsConnected, IsGreeting, OpensLane, HearsOpen, Fills, WritesOpen, acknowledged_by, deadline_of, moment_after, wakes_of};
 ghost use Rattle.peers.specs.declared.limits.TheConstants.{BEAT, GREETING_LIMIT, LEAST_PAUSE, MOMENT_BYTES};
 ghost use Rattle.peers.specs.declared.out_lane.Act.TheVariants.{Rest, Connect, Close};
 ghost use Rattle.peers.specs.declared.out_lane.OutStage.TheVariants.{Down, Connecting, Greets, Open};
@@ -167,7 +167,7 @@ fn text_of(alloc: Global, moment: u64) -> Result<Text, PeerFault> {
 
 /// Says a heartbeat with this moment, if one is due.
 fn say_moment(alloc: Global, now: u64, wire: &mut Wire) -> Result<(), PeerFault>
-    ensures said { OnOk result ((beats : List Numbered) × All (λ (m : Numbered). m.0 ≡ HEARTBEAT) beats × SaysMessages wire.old.outgoing beats [] wire.new.outgoing) }
+    ensures said { OnOk result (SaysBeats wire.old.outgoing wire.new.outgoing) }
     ensures due { OnOk result (moment_after wire.old.beaten BEAT ≤ now → wire.new.beaten ≡ now) }
     ensures more { OnOk result (length wire.old.outgoing.plain ≤ length wire.new.outgoing.plain) }
 {
@@ -370,12 +370,24 @@ impl OutLane {
             return Ok(count);
         }
         let greeted = greeting.end(id)?;
-        let wire = opened_wire(alloc, &greeted, now)?;
+        self.open(alloc, now, &greeted)?;
+        Ok(count)
+    }
+
+    /// The hellos came to this at this moment: the lane is open. An error changes nothing.
+    fn open(&mut self, alloc: Global, now: u64, greeted: &Greeted) -> Result<(), PeerFault>
+        ensures incoming { OnOk result (IsOpenWith self.new.stage (λ w. HasHeard MOMENT_BYTES greeted.now.keys.responder_key [] [] w.incoming)) }
+        ensures outgoing { OnOk result (IsOpenWith self.new.stage (λ w. HasSaid greeted.now.keys.initiator_tag greeted.now.keys.initiator_key [] [] w.outgoing)) }
+        ensures connected { OnOk result (IsConnected greeted.now.life self.old.sending self.new.sending) }
+        ensures held { self.new.sending.held ≡ self.old.sending.held }
+        ensures err { OnErr result (self.new ≡ self.old) }
+    {
+        let wire = opened_wire(alloc, greeted, now)?;
         self.sending.connect(greeted.life)?;
         self.stage = OutStage::Open { wire };
         self.pause = RetryPause::new();
         self.opened = self.opened.saturating_add(1);
-        Ok(count)
+        Ok(())
     }
 
     /// Bytes came at this moment: how many of them were taken. If some are left, the hellos ended before them, and they are

@@ -76,6 +76,15 @@ fn add(came: &mut Vec<u8>, most: usize, bytes: &[u8]) -> Result<usize, AllocErro
     Ok(n)
 }
 
+/// The bytes of an answer, and a tag behind them.
+fn with_tag(alloc: Global, answer: &[u8], tag: &[u8; 32]) -> Result<Vec<u8>, AllocError>
+    ensures { IfOk result (λ bytes. bytes.items ≡ answer.now ++ tag.now) }
+{
+    let mut bytes = Vec::from_slice(alloc, answer)?;
+    bytes.extend_from_slice(tag)?;
+    Ok(bytes)
+}
+
 impl Stranger {
     /// A connection of which nothing came. It is closed at this moment.
     pub fn new(alloc: Global, id: Identity, until: u64) -> Stranger
@@ -142,8 +151,7 @@ impl Stranger {
             self.hello.as_slice(),
             answer.as_slice(),
         );
-        let mut bytes = answer.clone()?;
-        bytes.extend_from_slice(&keys.responder_tag)?;
+        let bytes = with_tag(alloc, answer.as_slice(), &keys.responder_tag)?;
         self.answer = answer;
         self.who = Some(Admitted {
             from: hello.from,

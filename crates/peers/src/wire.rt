@@ -2,7 +2,7 @@
 
 ghost use Rattle.std.specs.Prelude.{ℕ, ◌≡◌, ◌≤◌, ◌+◌, ◌^◌, ◌-◌, ◌++◌, ◌↔◌, ◌<◌, List, [], ◌∷◌, length, min, IsTrue, OnOk};
 ghost use Rattle.links.specs.Numbered.{Numbered};
-ghost use Rattle.peers.specs.Ways.{HasHeard, HasSaid, HearsMore, IsAllWritten, SaysMessages};
+ghost use Rattle.peers.specs.Ways.{HasHeard, HasSaid, HearsMore, IsAllWritten, SaysBeats, SaysMessages};
 ghost use Rattle.peers.specs.declared.limits.TheConstants.{BEAT, MOST_SILENCE};
 ghost use Rattle.links.specs.declared.message.TheConstants.{HEARTBEAT};
 
@@ -114,6 +114,7 @@ impl Wire {
     /// Says a heartbeat with this text at this moment, behind what was said. After an error the connection is to be closed.
     pub fn beat(&mut self, alloc: Global, now: u64, text: &Text) -> Result<(), PeerFault>
         ensures said { OnOk result (SaysMessages self.old.outgoing ((HEARTBEAT, text.now) ∷ []) [] self.new.outgoing) }
+        ensures beats { OnOk result (SaysBeats self.old.outgoing self.new.outgoing) }
         ensures others { OnOk result (self.new ≡ record self.old { outgoing = self.new.outgoing; beaten = now }) }
         ensures more { OnOk result (length self.old.outgoing.plain < length self.new.outgoing.plain) }
     {

@@ -1,4 +1,4 @@
-use Rattle.std.proofs.Common.{◌≡◌, List, ◌++◌, ◌∷◌, [], refl, sym, ap, ◌∙◌, append_assoc}
+use Rattle.std.proofs.Common.{List, ◌++◌, ◌∷◌, [], refl, sym, ap, ◌∙◌, append_assoc, rules}
 use Rattle.std.proofs.lemmas.List.{append-nil}
 use Rattle.links.specs.Numbered.{Numbered}
 use Rattle.peers.specs.Lanes.{given_list}
@@ -7,7 +7,7 @@ use Rattle.peers.proofs.in_lane.receive_all.Goals as goal
 
 pub loop-message-init : goal.loop-message-init
 loop-message-init c = record {
-  rest = refl;
+  rest = search rules;
   given = ([], (refl, refl), sym (append-nil c.args.came.now.items));
 }
 

@@ -26,3 +26,8 @@ pub returns-clause-front : goal.returns-clause-front
 returns-clause-front c =
     lets_go c.args.messages.now (take c.loop-message.message-index c.args.messages.now) (drop c.loop-message.message-index c.args.messages.now) c.args.sending.now c.loop-message.sending
     (sym (take-append-drop c.loop-message.message-index c.args.messages.now)) c.loop-message.invariant
+
+pub returns-in_err-acknowledge-clause-front : goal.returns-in_err-acknowledge-clause-front
+returns-in_err-acknowledge-clause-front c =
+    lets_go c.args.messages.now (take c.loop-message.message-index c.args.messages.now) (drop c.loop-message.message-index c.args.messages.now) c.args.sending.now c.acknowledge.new.self
+    (sym (take-append-drop c.loop-message.message-index c.args.messages.now)) (c.in_err-acknowledge.ensures.err ∙ c.loop-message.invariant)

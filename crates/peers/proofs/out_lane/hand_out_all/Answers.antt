@@ -21,8 +21,16 @@ loop-preserved c =
     let next = rw c.in-Some.is at c.in_ok-found.ensures.next in record {
       handed = (
         letters.0 ++ x ∷ [],
-        hands_out_more c.args.sending.now loop.sending c.hand_out-found.new.self letters.0 x letters.1 next.0 next.1,
+        hands_out_more c.args.sending.now loop.sending c.hand_out.new.self letters.0 x letters.1 next.0 next.1,
         says_more c.args.outgoing.now loop.outgoing c.say.new.self letters.0 (x ∷ []) letters.2 c.in_ok-say.ensures.said,
       );
       more = omega (arith, loop.invariant.more, c.in_ok-say.ensures.more);
     }
+
+pub returns-in_err-say-clause-err : goal.returns-in_err-say-clause-err
+returns-in_err-say-clause-err c =
+    let loop = c.loop in
+    let letters = loop.invariant.handed in
+    let x : Numbered = (c.in-Some.number, c.in-Some.text) in
+    let next = rw c.in-Some.is at c.in_ok-found.ensures.next in
+    (letters.0 ++ x ∷ [], hands_out_more c.args.sending.now loop.sending c.hand_out.new.self letters.0 x letters.1 next.0 next.1)

@@ -11,7 +11,7 @@ returns-in-Some-keys_in-clause-ok c =
     let lane : c.in-Some-read.reply.lane ≡ c.self.inside.lane = search rules in
     let found = c.in-Some-keys_in.ensures.some in record {
       reply = c.in-Some-read.reply;
-      reply_is = ap (take HELLO_BYTES) (sym came) ∙ (sym c.in-Some.ensures.cases.0 ∙ c.in-Some-read.ensures.some.0);
+      reply_is = ap (take HELLO_BYTES) (sym came) ∙ (sym c.in-Some.ensures.cases.1 ∙ c.in-Some-read.ensures.some.0);
       is_for = c.is_for_me.ensures.0 c.if-not-is_for_me.false;
       from_is = c.if-reply-self.false ∙ ap (λ (g : GreetingView). g.peer) c.self.view_is;
       lane_is = lane ∙ ap (λ (g : GreetingView). g.lane) c.self.view_is;
@@ -19,5 +19,5 @@ returns-in-Some-keys_in-clause-ok c =
       key = found.0;
       is_key = found.1;
       keys_are = found.2 ∙ (ap (λ h. session_keys found.0 h c.in-Some.hello.now) hello ∙ ap (λ r. session_keys found.0 c.args.self.now.hello r) c.in-Some-read.ensures.some.0);
-      tag_is = ap (drop HELLO_BYTES) (sym came) ∙ (sym c.in-Some.ensures.cases.1 ∙ found.3);
+      tag_is = ap (drop HELLO_BYTES) (sym came) ∙ (sym c.in-Some.ensures.cases.2 ∙ found.3);
     }

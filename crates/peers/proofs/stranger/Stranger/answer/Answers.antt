@@ -26,7 +26,6 @@ pub returns-clause-some : goal.returns-clause-some
 returns-clause-some c =
     let first = c.self.inside.id.keys.first in
     let who : Admitted = record { from = c.in-Some.hello.from; lane = c.in-Some.hello.lane; life = c.in-Some.hello.life; keys = c.keys_of-keys.result } in
-    let copied : c.in_ok-bytes.bytes.items ≡ c.in_ok-answer.answer.items = search rules in
     let answered : IsAnswerTo c.self.inside.id c.self.inside.hello.items c.in_ok-answer.answer.items who = record {
       said = c.in-Some.hello;
       said_is = sym c.as_slice.ensures.value ∙ c.in-Some.ensures.some.0;
@@ -43,6 +42,6 @@ returns-clause-some c =
       life_is = ap (λ (h : Hello). h.life) c.hello.ensures ∙ ap (λ (s : StrangerView). s.id.life) c.self.view_is;
       answer_is = c.in_ok-answer.ensures;
       answers = subst (λ (s : StrangerView). IsAnswerTo s.id s.hello c.in_ok-answer.answer.items who) c.self.view_is answered;
-      said_is = c.in_ok-extend_from_slice.ensures.items ∙ ap (λ xs. xs ++ c.keys_of-keys.result.responder_tag) copied;
+      said_is = c.in_ok-bytes.ensures ∙ ap (λ xs. xs ++ c.keys_of-keys.result.responder_tag) c.as_slice-4.ensures.value;
       others = ap (λ (s : StrangerView). record s { answer = c.in_ok-answer.answer.items; who = Some who }) c.self.view_is;
     }
