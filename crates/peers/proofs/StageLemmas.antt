@@ -1,34 +1,15 @@
 -- How far the connection of a lane is.
-use Rattle.std.proofs.Common.{◌≡◌, ℕ, List, [], ◌++◌, take, refl, subst}
+use Rattle.std.proofs.Common.{◌≡◌, ℕ, List, [], ◌++◌, take, subst}
 use Rattle.links.specs.Sending.{SendingView}
 use Rattle.peers.specs.Greeting.{GreetingView}
 use Rattle.peers.specs.Identity.{IsHelloAnswered}
 use Rattle.peers.specs.Ways.{HasHeard, HasSaid}
-use Rattle.peers.specs.Lanes.{IfOpen, IsConnected, IsOpenWith, IfGreets, IfAccepted, OpensLane}
+use Rattle.peers.specs.Lanes.{IfOpen, IsConnected, IsOpenWith, IfGreets, OpensLane}
 use Rattle.peers.specs.declared.greeting.Greeted.{Greeted}
 use Rattle.peers.specs.declared.identity.Identity.{Identity}
 use Rattle.peers.specs.declared.limits.TheConstants.{MOMENT_BYTES}
-use Rattle.peers.specs.declared.wire.Wire.{Wire}
-use Rattle.peers.specs.declared.in_lane.InStage.{InStage}
-use Rattle.peers.specs.declared.in_lane.InStage.TheVariants.{Away, Accepted}
 use Rattle.peers.specs.declared.out_lane.OutStage.{OutStage}
 use Rattle.peers.specs.declared.out_lane.OutStage.TheVariants.{Down, Connecting, Greets, Open}
-
-pub if_not_open : (s : OutStage) (P : Wire → Type 0) → ((w : Wire) → s ≡ Open w → ⊥) → IfOpen s P
-if_not_open (Down until) P h = tt
-if_not_open (Connecting until) P h = tt
-if_not_open (Greets until greeting waits) P h = tt
-if_not_open (Open w) P h = absurd (h w refl)
-
-pub if_not_greets : (s : OutStage) (P : GreetingView → Type 0) → ((until : ℕ) (g : GreetingView) (waits : List ℕ) → s ≡ Greets until g waits → ⊥) → IfGreets s P
-if_not_greets (Down until) P h = tt
-if_not_greets (Connecting until) P h = tt
-if_not_greets (Greets until greeting waits) P h = absurd (h until greeting waits refl)
-if_not_greets (Open w) P h = tt
-
-pub if_not_accepted : (s : InStage) (P : Wire → Type 0) → ((w : Wire) → s ≡ Accepted w → ⊥) → IfAccepted s P
-if_not_accepted Away P h = tt
-if_not_accepted (Accepted w) P h = absurd (h w refl)
 
 -- the answer is whole and right, and messages go both ways
 pub opens : (s t : OutStage) (id : Identity) (bytes : List ℕ) (until : ℕ) (g : GreetingView) (waits : List ℕ) (count : ℕ) (greeted : Greeted) (old new : SendingView) → s ≡ Greets until g waits

@@ -1,4 +1,5 @@
-use Rattle.std.proofs.Common.{ℕ, ◌≤◌, arith, List, ◌++◌, ◌∷◌, [], refl, subst, sym, ap}
+use Rattle.std.proofs.Common.{ℕ, ◌≤◌, arith, List, ◌++◌, ◌∷◌, [], Result, Ok, Err, refl}
+use Rattle.std.specs.Prelude.{OnErr}
 use Rattle.links.specs.Numbered.{Numbered}
 use Rattle.links.specs.Sending.{SendingView}
 use Rattle.peers.specs.Ways.{SaysMessages}
@@ -6,6 +7,10 @@ use Rattle.peers.specs.Lanes.{HandsOutLetters}
 use Rattle.peers.proofs.WayLemmas.{says_nothing, says_more}
 use Rattle.peers.proofs.LaneLemmas.{hands_out_more}
 use Rattle.peers.proofs.out_lane.hand_out_all.Goals as goal
+
+on_err : {T E : Type 0} (r : Result T E) (P : Type 0) → P → OnErr r P
+on_err (Ok x) P p = tt
+on_err (Err e) P p = p
 
 pub loop-init : goal.loop-init
 loop-init c = record {
@@ -33,4 +38,4 @@ returns-in_err-say-clause-err c =
     let letters = loop.invariant.handed in
     let x : Numbered = (c.in-Some.number, c.in-Some.text) in
     let next = rw c.in-Some.is at c.in_ok-found.ensures.next in
-    (letters.0 ++ x ∷ [], hands_out_more c.args.sending.now loop.sending c.hand_out.new.self letters.0 x letters.1 next.0 next.1)
+    on_err c.from_residual-in_err-say.result _ (letters.0 ++ x ∷ [], hands_out_more c.args.sending.now loop.sending c.hand_out.new.self letters.0 x letters.1 next.0 next.1)
